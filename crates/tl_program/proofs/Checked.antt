@@ -41,7 +41,7 @@ module _ (words : List (List ℕ)) (change : Change) (status : ℕ) (ends : Ends
       status ≡ status_number (status_of delivery.report) →
       WentBy (task_of asked) table text status
   by_delivery delivery carried same =
-      let own = own_input asked (IsChecked asked change.files) change delivery carried bytes input quiet table spells in
+      let own = own_input asked.number asked (IsChecked asked change.files) change delivery carried bytes input quiet table spells in
       let judged = own.2.judged in
       record {
         found = own.0;

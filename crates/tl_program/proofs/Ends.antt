@@ -27,7 +27,7 @@ use Rattle.tl_program.specs.Headline.{ComesOf, IsCarriedOut, Ends}
 use Rattle.tl_program.specs.Inputs.{IsOfBytes}
 use Rattle.tl_program.specs.Messages.{status_number, status_of, message_of}
 use Rattle.tl_program.specs.Deliveries.{Delivery, reported, ComesOfInput, IsAnswered}
-use Rattle.tl_program.specs.Tasks.{task_of}
+use Rattle.tl_program.specs.Tasks.{task_of, task_on}
 use Rattle.tl_read.specs.Reading.{IsReading}
 use Rattle.tl_program.specs.inner.Printing.{IsPrinted, IsDelivered}
 use Rattle.tl_program.proofs.Asking.{carried_as}
@@ -168,29 +168,29 @@ pub same_budget : (task : Task) (one other : Table) → AreSame one other → bu
 same_budget task one other same = ap (λ (n : ℕ). budget_of task.budget (1 + n * task.width)) (same_nests one other same)
 
 -- what comes of a file that spells a table within the reach, or that is refused
-module _ (asked : Asked) (Own : Table → Delivery → Type 0) (change : Change) (delivery : Delivery)
-    (comes : ComesOfInput asked (reach (task_of asked)) Own change delivery) (bytes : List ℕ)
+module _ (width : ℕ) (asked : Asked) (Own : Table → Delivery → Type 0) (change : Change) (delivery : Delivery)
+    (comes : ComesOfInput asked (reach (task_on width asked)) Own change delivery) (bytes : List ℕ)
     (shown : ShowsFile change (input_name asked) bytes)
     (quiet : DoesNotFail change) where
   abbrev passed : Refusal → Type 0
   passed refusal = delivery ≡ reported (reports.Refused refusal)
 
   -- what comes of the bytes that the file holds
-  of_bytes : IsOfBytes (task_of asked).source (reach (task_of asked)) passed (λ table. Own table delivery) bytes
+  of_bytes : IsOfBytes (task_on width asked).source (reach (task_on width asked)) passed (λ table. Own table delivery) bytes
   of_bytes = elim comes [
     | inl unread ↦ absurd (quiet.load unread.rose)
-    | inr of ↦ subst (IsOfBytes (task_of asked).source (reach (task_of asked)) passed (λ table. Own table delivery))
+    | inr of ↦ subst (IsOfBytes (task_on width asked).source (reach (task_on width asked)) passed (λ table. Own table delivery))
         (same_bytes change.files shown.0 (input_name asked) of.0 bytes shown.1 shown.2 of.1) of.2
   ]
 
-  pub own_input : (table : Table) → SpellsTable (task_of asked) bytes table →
+  pub own_input : (table : Table) → SpellsTable (task_on width asked) bytes table →
       (found : Table) × AreSame found table × Own found delivery
-  own_input table spells = own_of (task_of asked).source (reach (task_of asked)) passed (λ t. Own t delivery) bytes table of_bytes
-      spells.read (same_reach (task_of asked)) spells.within
+  own_input table spells = own_of (task_on width asked).source (reach (task_on width asked)) passed (λ t. Own t delivery) bytes table of_bytes
+      spells.read (same_reach (task_on width asked)) spells.within
 
-  pub refused_input : (refusal : Refusal) → IsReading (task_of asked).source bytes (readings.Refused refusal) → passed refusal
+  pub refused_input : (refusal : Refusal) → IsReading (task_on width asked).source bytes (readings.Refused refusal) → passed refusal
   refused_input refusal =
-      refusal_of (task_of asked).source (reach (task_of asked)) passed (λ t. Own t delivery) bytes refusal of_bytes
+      refusal_of (task_on width asked).source (reach (task_on width asked)) passed (λ t. Own t delivery) bytes refusal of_bytes
 
 -- a table that is laid out gives 0, 3 or 4
 laid_status : (task : Task) (table : Table) (answer : Answer) {report : Report} → IsLaidAs task table answer report →
@@ -204,7 +204,7 @@ pub complete : (words : List (List ℕ)) (change : Change) (status : ℕ) → En
 complete words change status ends = λ asked bytes table is shown quiet spells.
     elim (went words change status Lay asked ends is quiet) [
       | inl so ↦
-          let own = own_input asked (IsAnswered asked) change so.0 so.1 bytes shown quiet table spells in
+          let own = own_input asked.number asked (IsAnswered asked) change so.0 so.1 bytes shown quiet table spells in
           laid_status (task_of asked) own.0 own.2.answer own.2.laid status
           (so.2 ∙ ap (λ (d : Delivery). status_number (status_of d.report)) own.2.so)
       | inr nine ↦ inr (inr (inr nine))
@@ -215,6 +215,6 @@ pub refused_so : (words : List (List ℕ)) (change : Change) (status : ℕ) → 
 refused_so words change status ends = λ asked bytes refusal is shown quiet read.
     elim (went words change status Lay asked ends is quiet) [
       | inl so ↦ inl (so.2 ∙ ap (λ (d : Delivery). status_number (status_of d.report))
-          (refused_input asked (IsAnswered asked) change so.0 so.1 bytes shown quiet refusal read))
+          (refused_input asked.number asked (IsAnswered asked) change so.0 so.1 bytes shown quiet refusal read))
       | inr nine ↦ inr nine
     ]

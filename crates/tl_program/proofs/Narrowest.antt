@@ -26,14 +26,15 @@ use Rattle.tl_program.specs.Answers.{IsBelowCounts, budget_in}
 use Rattle.tl_program.specs.Asks.{IsAskOf, input_name, page_name}
 use Rattle.tl_program.specs.Change.{Change, Holds, with_all}
 use Rattle.tl_program.specs.Complete.{ShowsFile}
+use Rattle.tl_program.specs.Deliveries.{Delivery}
 use Rattle.tl_program.specs.Headline.{Ends}
 use Rattle.tl_program.specs.Messages.{status_number, status_of, message_of}
-use Rattle.tl_program.specs.Narrowest.{HoldsNone, IsNarrowest, IsSoundTableOf, StoresBetween, StoresLowPage, StoresNarrowest}
-use Rattle.tl_program.specs.Narrowest.{StoresWiderPage}
+use Rattle.tl_program.specs.Narrowest.{FindsWidth, HoldsNone, IsNarrowest, IsSoundTableOf, StoresBetween, StoresLowPage, StoresNarrowest}
+use Rattle.tl_program.specs.Narrowest.{RefusesSlim, StoresWiderPage}
 use Rattle.tl_program.specs.Slimmed.{IsPageOfKept, IsSlimIn, IsSlimmed, found_width}
 use Rattle.tl_program.specs.Tasks.{given_or, style_of, breaking_of, source_of, slim_task}
 use Rattle.tl_program.proofs.Asking.{names_asked}
-use Rattle.tl_program.proofs.Ends.{same_bytes}
+use Rattle.tl_program.proofs.Ends.{own_input, refused_input, same_bytes, went}
 use Rattle.tl_program.proofs.Lowest.{same_breaks, whole_page}
 use Rattle.tl_program.proofs.NamedFiles.{text_there}
 use Rattle.tl_program.proofs.SlimRuns.{IsReported, SlimRun, between, is_reported, met, past, slim_run}
@@ -232,3 +233,31 @@ holds_none no_less words change status ends = λ same asked bytes is shown.
           omega (arith, least, within, told.0),
       prints_as change went.delivery.report found.0 _ went.prints found.2 told.1,
     )
+
+-- ---- which status it is
+
+-- a search for the narrowest page gives 0, 3 or 12
+slim_status : (height : ℕ) (one : Slim) {report : Report} → IsReported height one report → (status : ℕ) →
+    status ≡ status_number (status_of report) → (status ≡ 0) ⊎ ((status ≡ 3) ⊎ ((status ≡ 12) ⊎ (status ≡ 9)))
+slim_status height one (met is) status same = inl same
+slim_status height one (between apart few) status same = inr (inl same)
+slim_status height one (past apart more) status same = inr (inr (inl same))
+
+pub finds : (words : List (List ℕ)) (change : Change) (status : ℕ) → Ends words change status → FindsWidth words change status
+finds words change status ends = λ asked bytes table is shown quiet spells.
+    elim (went words change status Narrow asked ends is quiet) [
+      | inl so ↦
+          let own = own_input MAX_PAGE_WIDTH asked (IsSlimmed asked) change so.0 so.1 bytes shown quiet table spells in
+          let told = is_reported asked own.2.slim so.0.report status own.2.reports so.2 in
+          slim_status asked.number own.2.slim told.1 status told.3
+      | inr nine ↦ inr (inr (inr nine))
+    ]
+
+pub refused_slim : (words : List (List ℕ)) (change : Change) (status : ℕ) → Ends words change status →
+    RefusesSlim words change status
+refused_slim words change status ends = λ asked bytes refusal is shown quiet read.
+    elim (went words change status Narrow asked ends is quiet) [
+      | inl so ↦ inl (so.2 ∙ ap (λ (d : Delivery). status_number (status_of d.report))
+          (refused_input MAX_PAGE_WIDTH asked (IsSlimmed asked) change so.0 so.1 bytes shown quiet refusal read))
+      | inr nine ↦ inr nine
+    ]

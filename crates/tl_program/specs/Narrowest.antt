@@ -14,17 +14,18 @@ use Rattle.tl_table.specs.Sound.{IsSound}
 use Rattle.tl_narrow.specs.Slimmest.{IsSlimmestWidth}
 use Rattle.tl_read.specs.Reading.{IsTableOfFile}
 use Rattle.tl_read.specs.declared.reading.Reading.TheVariants as readings
+use Rattle.tl_read.specs.declared.refusal.Refusal.{Refusal}
 use Rattle.tl_read.specs.Reading.{IsReading}
 use Rattle.tl_program.specs.declared.report.Report.{Report}
 use Rattle.tl_program.specs.declared.report.Report.TheVariants as reports
 use Rattle.tl_program.specs.Answers.{budget_in, IsBelowCounts}
 use Rattle.tl_program.specs.Asks.{IsAskOf, input_name, judged_name}
 use Rattle.tl_program.specs.Change.{Change, DoesNotFail, Holds, with_all}
-use Rattle.tl_program.specs.Complete.{claim_status}
+use Rattle.tl_program.specs.Complete.{ShowsFile, SpellsTable, claim_status}
 use Rattle.tl_program.specs.Deliveries.{Delivery}
 use Rattle.tl_program.specs.Headline.{IsCarriedOut}
 use Rattle.tl_program.specs.Lowest.{OfFile, StoresPage}
-use Rattle.tl_program.specs.Messages.{status_number, status_of, message_of}
+use Rattle.tl_program.specs.Messages.{status_number, status_of, refusal_status, message_of}
 use Rattle.tl_program.specs.Tasks.{source_of, style_of, slim_task, task_of}
 
 -- the bytes of the file are the table
@@ -76,6 +77,21 @@ abbrev pub HoldsNone : List (List ℕ) → Change → ℕ → Type 0
 HoldsNone words change status = status ≡ 12 → OfFile Narrow words change (λ asked bytes. (table : Table)
     × IsSoundTableOf asked bytes table × ((width : ℕ) → IsNarrowest asked table width → ⊥)
     × Prints change (reports.TooTall asked.number))
+
+-- ---- which status it is, unless the desk fails or memory runs out
+
+-- a file that spells a table within all limits, of which any page may be searched, gives 0, 3 or 12
+abbrev pub FindsWidth : List (List ℕ) → Change → ℕ → Type 0
+FindsWidth words change status = (asked : Asked) (bytes : List ℕ) (table : Table) → IsAskOf Narrow words asked →
+    ShowsFile change (input_name asked) bytes → DoesNotFail change → SpellsTable (slim_task asked) bytes table →
+    (status ≡ 0) ⊎ ((status ≡ 3) ⊎ ((status ≡ 12) ⊎ (status ≡ 9)))
+
+-- a file that is refused gives the status of its refusal
+abbrev pub RefusesSlim : List (List ℕ) → Change → ℕ → Type 0
+RefusesSlim words change status = (asked : Asked) (bytes : List ℕ) (refusal : Refusal) → IsAskOf Narrow words asked →
+    ShowsFile change (input_name asked) bytes → DoesNotFail change →
+    IsReading (task_of asked).source bytes (readings.Refused refusal) →
+    (status ≡ status_number (refusal_status refusal)) ⊎ (status ≡ 9)
 
 -- ---- what a check says of it
 

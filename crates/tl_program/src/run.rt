@@ -8,7 +8,8 @@ ghost use Rattle.tl_command.specs.Ask.{asked_by, IsAsk};
 ghost use Rattle.tl_program.specs.Alike.{ChecksAlike, LowestAlike, RefusalsAlike};
 ghost use Rattle.tl_program.specs.Change.{between};
 ghost use Rattle.tl_program.specs.Complete.{AcceptsLaid, IsAcceptedSo, IsComplete, IsRefusedSo, IsRejectedSo};
-ghost use Rattle.tl_program.specs.Narrowest.{AcceptsSlim, HoldsNone, StoresBetween, StoresNarrowest};
+ghost use Rattle.tl_program.specs.Narrowest.{AcceptsSlim, FindsWidth, HoldsNone, RefusesSlim, StoresBetween};
+ghost use Rattle.tl_program.specs.Narrowest.{StoresNarrowest};
 ghost use Rattle.tl_program.specs.Headline.{Ends};
 ghost use Rattle.tl_program.specs.Lowest.{FitsNone, StoresBounded, StoresLowest};
 ghost use Rattle.tl_program.specs.Messages.{status_number};
@@ -62,6 +63,10 @@ pub fn run<R: Threads + Sync, D: Desk, G: Gate>(
     ensures rejected { IsRejectedSo (map string_bytes words.now)
         (between D.Desk desk.old desk.new) result }
     ensures accepts_laid { AcceptsLaid (map string_bytes words.now)
+        (between D.Desk desk.old desk.new) result }
+    ensures finds { FindsWidth (map string_bytes words.now)
+        (between D.Desk desk.old desk.new) result }
+    ensures refuses_slim { RefusesSlim (map string_bytes words.now)
         (between D.Desk desk.old desk.new) result }
     ensures accepts_slim { AcceptsSlim (map string_bytes words.now)
         (between D.Desk desk.old desk.new) result }

@@ -4,14 +4,14 @@ use Rattle.tl_program.specs.Alike.{ChecksAlike, LowestAlike, RefusalsAlike}
 use Rattle.tl_program.specs.Change.{Change, between}
 use Rattle.tl_program.specs.Complete.{IsComplete, IsRefusedSo, IsAcceptedSo, IsRejectedSo, AcceptsLaid}
 use Rattle.tl_program.specs.Lowest.{FitsNone, StoresBounded, StoresLowest}
-use Rattle.tl_program.specs.Narrowest.{AcceptsSlim, HoldsNone, StoresBetween, StoresNarrowest}
+use Rattle.tl_program.specs.Narrowest.{AcceptsSlim, FindsWidth, HoldsNone, RefusesSlim, StoresBetween, StoresNarrowest}
 use Rattle.tl_program.proofs.Accepting.{accepts_laid}
 use Rattle.tl_program.proofs.AcceptingSlim.{accepts_slim}
 use Rattle.tl_program.proofs.Alike.{checks_alike, lowest_alike, refusals_alike}
 use Rattle.tl_program.proofs.Checked.{accepted_so, rejected_so}
 use Rattle.tl_program.proofs.Ends.{complete, refused_so}
 use Rattle.tl_program.proofs.Lowest.{stores_lowest, stores_bounded, fits_none}
-use Rattle.tl_program.proofs.Narrowest.{holds_none, stores_between, stores_narrowest}
+use Rattle.tl_program.proofs.Narrowest.{finds, holds_none, refused_slim, stores_between, stores_narrowest}
 use Rattle.tl_program.proofs.run.run.Goals as goal
 
 -- what holds of a status holds of its number
@@ -51,6 +51,18 @@ returns-clause-too_tall g c =
     let change = between g.D.Desk c.args.desk.now c.carry_out.new.desk in
     numbered HoldsNone words change _ _ c.number.ensures
     (holds_none c.slimmest_is_no_less.ensures words change _ c.carry_out.ensures.ends)
+
+pub returns-clause-finds : goal.returns-clause-finds
+returns-clause-finds g c =
+    let words = map string_bytes c.args.words.now in
+    let change = between g.D.Desk c.args.desk.now c.carry_out.new.desk in
+    numbered FindsWidth words change _ _ c.number.ensures (finds words change _ c.carry_out.ensures.ends)
+
+pub returns-clause-refuses_slim : goal.returns-clause-refuses_slim
+returns-clause-refuses_slim g c =
+    let words = map string_bytes c.args.words.now in
+    let change = between g.D.Desk c.args.desk.now c.carry_out.new.desk in
+    numbered RefusesSlim words change _ _ c.number.ensures (refused_slim words change _ c.carry_out.ensures.ends)
 
 pub returns-clause-accepts_slim : goal.returns-clause-accepts_slim
 returns-clause-accepts_slim g c =
