@@ -3,7 +3,7 @@
 # out at the width that lay.sh has for it, and `narrow` looks for the narrowest page of as many lines. Builds
 # the program where it is missing. Prints for each file both times in milliseconds, each the middle one of five
 # runs, and what `narrow` says. Fails where `narrow` takes more than ten times as long as `lay` on `demo` (30
-# rows over 6 columns), or a second on any other file but those that are named as exceptions below.
+# rows over 6 columns), or a second on any other file.
 set -euo pipefail
 here=$(dirname "$(readlink -f "${BASH_SOURCE[0]}")")
 "$here/../tablelayout" lay 7 "$here/../examples/first.html" /dev/stdout >/dev/null
@@ -31,8 +31,6 @@ for case in first:7 demo:60 column:80 rows:120 columns:300 nested:80 mebibyte:80
     narrow=$(middle "$program" narrow "$height" "$files/$name.html" "$files/page")
     printf '%-9s lay %5d ms, narrow %6d ms: %s\n' "$name" "$lay" "$narrow" "$(cat "$files/said")"
     case $name in
-        # Ten pages of 2,000 rows of 10 cells, of 60 columns, of 199 nested tables at up to 500 widths, of a mebibyte.
-        rows | columns | nested | mebibyte) ;;
         demo) [ "$narrow" -le $((10 * lay + 5)) ] || failed=1 ;;
         *) [ "$narrow" -le 1000 ] || failed=1 ;;
     esac

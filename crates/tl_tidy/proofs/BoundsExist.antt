@@ -70,9 +70,6 @@ module _ (problem : ProblemModel) where
 module _ (problem : ProblemModel) (sound : IsSound problem) (Among : List ℕ → Type 0)
     (decide : (widths : List ℕ) → Decides (Among widths))
     (page : (widths : List ℕ) → Among widths → WithinPage problem widths) (some : List ℕ) (has : Among some) where
-  room_of : ℕ → ℕ → List ℕ → ℕ
-  room_of left right widths = room (gap_of problem.style) widths left right
-
   greatest-upto : (left right n : ℕ) → ((widths : List ℕ) → Among widths → room (gap_of problem.style) widths left right ≤ n) →
       (w : ℕ) × IsGreatestRoom problem Among left right w
   greatest-upto left right zero most = (

@@ -9,8 +9,8 @@ ghost use Rattle.tl_tidy.specs.inner.Looks.{AreSameAt, AreSameUpTo};
 use tl_base::{Config, Steps};
 use tl_problem::Problem;
 
-/// Whether each cell needs the same by `low` and by `high` at all widths that the page has room for, as
-/// `choose` asks. No memory is taken.
+/// Whether each cell needs the same by `low` and by `high` at all widths that the page has room
+/// for, as `choose` asks. No memory is taken.
 pub fn steps_agree(problem: &Problem) -> bool
     ensures { IsTrue result ↔ LowIsHigh problem.now }
 {

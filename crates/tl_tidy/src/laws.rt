@@ -1,4 +1,5 @@
-//! Laws of the definitions in this crate's specs. Each is the contract of a function that does nothing.
+//! Laws of the definitions in this crate's specs. Each is the contract of a function that does
+//! nothing.
 ghost use Rattle.tl_tidy.specs.Laws.{ChosenIsUnique, EachZoneHasNeed, NeedIsBelowCount, NeedIsUnique};
 
 /// Each zone of a sound problem has a need, at each height.

@@ -50,7 +50,8 @@ fn first_open(ranges: &[Range]) -> Option<u32>
     None
 }
 
-/// The two parts of the zone, cut at its first span of more than one class, after the first of them.
+/// The two parts of the zone, cut at its first span of more than one class, after the first of
+/// them.
 pub(crate) fn cut_first(zone: &Zone, span: u32) -> Result<(Zone, Zone), AllocError>
     requires ordered { (range_at zone.now span).first ≤ (range_at zone.now span).last }
     requires first { IsFirstOpen zone.now span }

@@ -68,8 +68,8 @@ fn two_by_two(alloc: Global, width: u32) -> Result<Problem, Fail> {
     problem(alloc, 2, 2, width, cells)
 }
 
-/// Three columns and rows, with a cell of two words where they cross. The first of these has lines of one
-/// letter, so many of them on one column; the page has room for one column of three.
+/// Three columns and rows, with a cell of two words where they cross. The first of these has lines
+/// of one letter, so many of them on one column; the page has room for one column of three.
 fn staircase(alloc: Global, first: u32) -> Result<Problem, Fail> {
     let tall = [config(1, first), config(3, 1)];
     let long = [config(1, 2), config(3, 1)];
@@ -80,8 +80,8 @@ fn staircase(alloc: Global, first: u32) -> Result<Problem, Fail> {
     problem(alloc, 3, 3, 9, cells)
 }
 
-/// Whether the placement of these widths, which is no higher than the height, is chosen. `None` where the
-/// choice is left open.
+/// Whether the placement of these widths, which is no higher than the height, is chosen. `None`
+/// where the choice is left open.
 fn is_chosen(
     alloc: Global,
     problem: &Problem,
@@ -104,8 +104,8 @@ fn is_chosen(
     }
 }
 
-/// Whether the placement of these widths is chosen by each quota from its need on, and the choice is left
-/// open by each quota below.
+/// Whether the placement of these widths is chosen by each quota from its need on, and the choice
+/// is left open by each quota below.
 fn needs(
     alloc: Global,
     problem: &Problem,
@@ -164,8 +164,8 @@ fn of_three_narrowest_pages_the_last_column_is_wide(rt: HostRuntime) -> Result<(
     Ok(())
 }
 
-// Here the first column has to be wide, though the bound of the part where it is narrow is low enough: no
-// two columns are wide at once. One cut shows that this part holds nothing.
+// Here the first column has to be wide, though the bound of the part where it is narrow is low
+// enough: no two columns are wide at once. One cut shows that this part holds nothing.
 #[test]
 fn a_lower_part_is_shown_to_hold_nothing(rt: HostRuntime) -> Result<(), Fail> {
     let alloc = rt.alloc();

@@ -15,10 +15,10 @@ use crate::look::{Look, cut_first, look_at, place_tight};
 use std::alloc::{AllocError, Global};
 use tl_problem::{Problem, Work, Zone};
 
-/// Chooses among the layouts that are no higher than `height`, in lines: of their class vectors the first
-/// one, as in a dictionary, and of its widths those of the least positions, made tight. At most `quota`
-/// zones are cut; where more would have to be, the choice stays open. The memory that it takes grows with
-/// the cuts and the spans.
+/// Chooses among the layouts that are no higher than `height`, in lines: of their class vectors the
+/// first one, as in a dictionary, and of its widths those of the least positions, made tight. At
+/// most `quota` zones are cut; where more would have to be, the choice stays open. The memory that
+/// it takes grows with the cuts and the spans.
 pub fn choose(
     alloc: Global,
     problem: &Problem,
@@ -39,8 +39,8 @@ pub fn choose(
     walk_zones(problem, height, quota, stack, work)
 }
 
-/// Goes through the zones on the stack, the last one first, to the first layout that is low enough. At most
-/// `quota` zones are cut.
+/// Goes through the zones on the stack, the last one first, to the first layout that is low enough.
+/// At most `quota` zones are cut.
 fn walk_zones(
     problem: &Problem,
     height: u32,
