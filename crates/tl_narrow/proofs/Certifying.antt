@@ -35,6 +35,7 @@ use Rattle.tl_form.specs.Expected.{Document, IsDocumentOf, own_number, least_of}
 use Rattle.tl_form.specs.Subjects.{meant}
 use Rattle.tl_form.specs.Valid.{AreWhole, HasNumbers, EndsWith, IsShown, IsValid}
 use Rattle.tl_solve.specs.declared.outcome.Outcome.{Outcome}
+use Rattle.tl_form.specs.ValidLaws.{HasHeight}
 use Rattle.tl_nested.specs.Searched.{AreSectionsOf, AreWritable}
 use Rattle.tl_narrow.specs.Certified.{section_claim, claim_of_last, claim_of, certificate_of}
 
@@ -102,6 +103,11 @@ first_of [] some = absurd (omega (arith, some))
 first_of (x ∷ xs) some = x
 
 -- ---- writing
+
+-- what a certificate claims of a page that is wide enough is the height of its last section
+claim_height : (section : Section) (same : Bool) → HasHeight (claim_by section same) section.height
+claim_height section true = refl
+claim_height section false = refl
 
 each_within : {X : Type 0} (f : X → List TextPiece) (xs : List X) → AllByRecursion (λ x. AllWithin (f x)) xs →
     AllWithin (flat_map f xs)
@@ -222,9 +228,16 @@ module _ (given : ProblemModel → Outcome → Type 0) (table : Table) (style : 
   ends = subst (λ (found : Option Section). IsSomeAnd found (HasNumbers (claim_of_last found))) (sym last.found)
       (by_numbers last_section (last_section.lower == last_section.height) refl ordered)
 
+  pub high : HasHeight (claim_of sections) last_section.height
+  high = subst (λ (claim : Claim). HasHeight claim last_section.height) (sym claim_same)
+      (claim_height last_section (last_section.lower == last_section.height))
+
   numbers : (last_section.height ≤ MAX_HEIGHT) × (last_section.lower ≤ MAX_HEIGHT)
   numbers = section_numbers last_section (subst IsSectionWritable (last.at last_section)
       (all_at IsSectionWritable sections can.each (length sections - 1) last_section (omega (arith, some))))
+
+  pub claimed_height : (height : ℕ) × (height ≤ MAX_HEIGHT) × HasHeight (claim_of sections) height
+  claimed_height = (last_section.height, numbers.0, high)
 
   pub valid : IsValid table style page budget (certificate_of page style budget sections)
   valid = (

@@ -36,11 +36,12 @@ use Rattle.tl_program.specs.declared.rejection.Rejection.{Rejection}
 use Rattle.tl_program.specs.declared.report.Report.{Report}
 use Rattle.tl_program.specs.declared.report.Report.TheVariants as reports
 use Rattle.tl_program.specs.declared.task.Task.{Task}
-use Rattle.tl_program.specs.Answers.{budget_in, IsBelowCounts}
+use Rattle.tl_narrow.specs.Slimmest.{IsBelowCounts}
+use Rattle.tl_program.specs.Answers.{budget_in}
 use Rattle.tl_program.specs.Checks.{IsValidIn, columns_shown, IsShownAs, lowest_shown, bounded_shown, narrow_shown, IsJudged}
 use Rattle.tl_program.specs.Rejections.{text_rejection, step_rejection}
 use Rattle.tl_program.specs.inner.Claims.{HasFewColumns, report_of}
-use Rattle.tl_program.proofs.Laying.{own_least, last_found, last_of, last_is}
+use Rattle.tl_narrow.proofs.Certifying.{own_least, last_found, last_of, last_is}
 
 -- ---- few columns
 

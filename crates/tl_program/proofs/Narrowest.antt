@@ -22,7 +22,8 @@ use Rattle.tl_read.specs.Reading.{IsReading}
 use Rattle.tl_read.proofs.Readings.{table_within}
 use Rattle.tl_program.specs.declared.report.Report.{Report}
 use Rattle.tl_program.specs.declared.report.Report.TheVariants as reports
-use Rattle.tl_program.specs.Answers.{IsBelowCounts, budget_in}
+use Rattle.tl_narrow.specs.Slimmest.{IsBelowCounts}
+use Rattle.tl_program.specs.Answers.{budget_in}
 use Rattle.tl_program.specs.Asks.{IsAskOf, input_name, page_name}
 use Rattle.tl_program.specs.Change.{Change, Holds, with_all}
 use Rattle.tl_program.specs.Complete.{ShowsFile}

@@ -28,9 +28,9 @@ use Rattle.tl_program.specs.Answers.{IsOutcomeOf}
 use Rattle.tl_program.specs.Demonstration.{before_last, IsSummaryOf}
 use Rattle.tl_read.specs.declared.source.Source.TheVariants.{Html}
 use Rattle.tl_read.specs.Reading.{IsReading, AreSameReadings, IsSoundReading, table_in}
-use Rattle.tl_program.specs.inner.Claims.{certificate_of}
+use Rattle.tl_narrow.specs.Certified.{certificate_of}
 use Rattle.tl_program.specs.inner.Summaries.{HasOwnNext, IsCountAfter}
-use Rattle.tl_program.proofs.Laying.{last_found, valid}
+use Rattle.tl_narrow.proofs.Certifying.{last_found, valid}
 
 -- ---- the table
 

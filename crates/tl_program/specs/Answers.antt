@@ -22,12 +22,12 @@ use Rattle.tl_table.specs.Layouts.{Fits, total_width}
 use Rattle.tl_table.specs.Least.{IsLeastHeight, IsLeastWidth}
 use Rattle.tl_form.specs.Named.{IsNamed}
 use Rattle.tl_form.specs.OpenLaws.{IsSpent}
-use Rattle.tl_form.specs.Problems.{IsCountAll}
 use Rattle.tl_table.specs.Sound.{nested_in_table}
 use Rattle.tl_form.specs.Valid.{IsValid}
 use Rattle.tl_form.specs.ValidLaws.{IsBetween}
 use Rattle.tl_html.specs.Html as html
 use Rattle.tl_html.specs.Readable.{IsHtmlPage, SpellsAlike}
+use Rattle.tl_narrow.specs.Slimmest.{IsBelowCounts}
 use Rattle.tl_nested.specs.Searched.{AreSectionsOf}
 use Rattle.tl_page.specs.Pages.{IsPage}
 use Rattle.tl_page.specs.Pages as pages
@@ -101,10 +101,6 @@ pub record IsPageAt (html : Bool) (style : Style) (table : Table) (width height 
 pub record Certifies (table : Table) (style : Style) (width budget : ℕ) (claim : Claim) (certificate : Certificate) : Type 0 where
   pub claimed : certificate.claim ≡ claim
   pub valid : IsValid table style width budget certificate
-
--- the budget is below the greatest count of the table and those nested in it
-abbrev pub IsBelowCounts : Table → Style → ℕ → ℕ → Type 0
-IsBelowCounts table style width budget = (most : ℕ) × IsCountAll table style width most × (budget < most)
 
 -- ---- what is stored
 

@@ -23,7 +23,8 @@ use Rattle.tl_program.specs.declared.rejection.Rejection.{Rejection}
 use Rattle.tl_program.specs.declared.report.Report.{Report}
 use Rattle.tl_program.specs.declared.report.Report.TheVariants as reports
 use Rattle.tl_program.specs.declared.task.Task.{Task}
-use Rattle.tl_program.specs.Answers.{budget_in, IsBelowCounts}
+use Rattle.tl_narrow.specs.Slimmest.{IsBelowCounts}
+use Rattle.tl_program.specs.Answers.{budget_in}
 use Rattle.tl_program.specs.Asks.{judged_name}
 use Rattle.tl_program.specs.Change.{Holds}
 use Rattle.tl_program.specs.Deliveries.{Delivery}

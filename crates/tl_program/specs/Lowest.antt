@@ -10,7 +10,8 @@ use Rattle.tl_table.specs.declared.layout.Layout.{Layout}
 use Rattle.tl_table.specs.Layouts.{Fits}
 use Rattle.tl_table.specs.Sound.{IsSound}
 use Rattle.tl_read.specs.Reading.{IsTableOfFile}
-use Rattle.tl_program.specs.Answers.{budget_in, IsBelowCounts, IsWholePage}
+use Rattle.tl_narrow.specs.Slimmest.{IsBelowCounts}
+use Rattle.tl_program.specs.Answers.{budget_in, IsWholePage}
 use Rattle.tl_program.specs.Asks.{IsAskOf, input_name, page_name}
 use Rattle.tl_program.specs.Change.{Change, Holds}
 use Rattle.tl_program.specs.Complete.{ShowsFile}

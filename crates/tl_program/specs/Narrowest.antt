@@ -11,14 +11,14 @@ use Rattle.tl_command.specs.declared.command.Command.TheVariants.{Narrow, Check}
 use Rattle.tl_command.specs.Ask.{Asked}
 use Rattle.tl_table.specs.declared.cell.Table.{Table}
 use Rattle.tl_table.specs.Sound.{IsSound}
-use Rattle.tl_narrow.specs.Slimmest.{IsSlimmestWidth}
+use Rattle.tl_narrow.specs.Slimmest.{IsBelowCounts, IsSlimmestWidth}
 use Rattle.tl_read.specs.Reading.{IsTableOfFile}
 use Rattle.tl_read.specs.declared.reading.Reading.TheVariants as readings
 use Rattle.tl_read.specs.declared.refusal.Refusal.{Refusal}
 use Rattle.tl_read.specs.Reading.{IsReading}
 use Rattle.tl_program.specs.declared.report.Report.{Report}
 use Rattle.tl_program.specs.declared.report.Report.TheVariants as reports
-use Rattle.tl_program.specs.Answers.{budget_in, IsBelowCounts}
+use Rattle.tl_program.specs.Answers.{budget_in}
 use Rattle.tl_program.specs.Asks.{IsAskOf, input_name, judged_name}
 use Rattle.tl_program.specs.Change.{Change, DoesNotFail, Holds, with_all}
 use Rattle.tl_program.specs.Complete.{ShowsFile, SpellsTable, claim_status}

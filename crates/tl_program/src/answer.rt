@@ -10,7 +10,6 @@ ghost use Rattle.tl_table.specs.Sound.{IsSound};
 ghost use Rattle.tl_form.specs.Subjects.{meant};
 ghost use Rattle.tl_program.specs.Answers.{IsPageFile, certificate_file, IsReadBack};
 ghost use Rattle.tl_program.specs.Answers.{IsLaidAs};
-ghost use Rattle.tl_program.specs.inner.Claims.{certificate_of, claim_of};
 ghost use Rattle.tl_program.specs.inner.Certified.{IsFound};
 ghost use Rattle.tl_program.specs.inner.Steps.{IsUsableTable};
 
@@ -21,14 +20,14 @@ use crate::widths::total_width;
 use std::alloc::{AllocError, Global};
 use std::thread::Threads;
 use tl_base::{Gate, List, MAX_CERTIFICATE_BYTES};
-use tl_cert::{Certificate, Claim, Section, write};
+use tl_cert::{Certificate, write};
 use tl_form::{
-    Subject, bounded_is_between, budget_closes, chains_are_writable, layout, lowest_is_least,
-    open_spends,
+    Subject, bounded_is_between, budget_closes, layout, lowest_is_least, open_spends,
 };
 use tl_html::html;
 use tl_page::page;
-use tl_table::{Layout, Table, narrow_chain};
+use tl_narrow::{certificate_of, narrow_certificate};
+use tl_table::{Layout, Table};
 
 /// What is reported of a table, and what is stored for it.
 #[derive(Drop)]
@@ -74,15 +73,7 @@ fn too_narrow(
     requires small { least ≤ MAX_HEIGHT }
     ensures { IfOk result (λ answer. IsLaidAs task.now subject.now.table.now answer answer.report) }
 {
-    chains_are_writable();
-    let certificate = Certificate {
-        width: task.width,
-        style: task.style,
-        budget,
-        claim: Claim::Narrow(least),
-        chains: narrow_chain(alloc, subject.table, task.style)?,
-        sections: List::new(alloc),
-    };
+    let certificate = narrow_certificate(alloc, subject, task.width, budget, least)?;
     Ok(Answer {
         report: Report::Narrow {
             least,
@@ -91,39 +82,6 @@ fn too_narrow(
         page: None,
         certificate: certificate_file(alloc, task.certified, &certificate)?,
     })
-}
-
-/// What the last section claims of the page.
-fn claim_of(sections: &[Section]) -> Claim
-    requires { 0 < length sections.now }
-    ensures { result ≡ claim_of sections.now }
-{
-    let last = &sections[sections.len() - 1];
-    if last.lower == last.height {
-        Claim::Lowest(last.height)
-    } else {
-        Claim::Bounded(last.height, last.lower)
-    }
-}
-
-/// The certificate of these sections, which claims what the last of them does.
-pub fn certificate_of(
-    alloc: Global,
-    task: &Task,
-    budget: u32,
-    sections: List<Section>,
-) -> Certificate
-    requires { 0 < length sections }
-    ensures { result ≡ certificate_of task.now.width task.now.style budget sections }
-{
-    Certificate {
-        width: task.width,
-        style: task.style,
-        budget,
-        claim: claim_of(sections.as_slice()),
-        chains: List::new(alloc),
-        sections,
-    }
 }
 
 /// The lowest page that the search finds, with its certificate.
@@ -140,7 +98,7 @@ fn lowest<R: Threads + Sync, G: Gate>(
     ensures { IfOk result (λ answer. IsLaidAs task.now table.now answer answer.report) }
 {
     let sections = searched(rt, alloc, task, table, budget, gate)?;
-    let certificate = certificate_of(alloc, task, budget, sections);
+    let certificate = certificate_of(alloc, task.style, task.width, budget, sections);
     laid(alloc, task, table, budget, &certificate)
 }
 

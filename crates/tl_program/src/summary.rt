@@ -14,7 +14,6 @@ ghost use Rattle.tl_program.specs.Demonstration.{IsSummaryOf};
 ghost use Rattle.tl_read.specs.Reading.{IsReading};
 ghost use Rattle.tl_program.specs.inner.Summaries.{demo_task, HasOwnNext, IsCountAfter};
 
-use crate::answer::certificate_of;
 use crate::limits::DEMO_BUDGET;
 use crate::makers::searched;
 use crate::report::Summary;
@@ -26,6 +25,7 @@ use tl_cert::Section;
 use tl_command::Search;
 use tl_demo::{DEMO_WIDTH, demo_fits, demo_text};
 use tl_form::{Due, Subject};
+use tl_narrow::certificate_of;
 use tl_nested::problem_at;
 use tl_read::{Source, read};
 use tl_table::Table;
@@ -76,7 +76,7 @@ fn summary_of<R: Threads + Sync, G: Gate>(
 {
     let task = task();
     let sections = searched(rt, alloc, &task, table, DEMO_BUDGET, gate)?;
-    let certificate = certificate_of(alloc, &task, DEMO_BUDGET, sections);
+    let certificate = certificate_of(alloc, task.style, task.width, DEMO_BUDGET, sections);
     // The certificate is valid, so it is refused only where memory runs out.
     if verify(
         rt,

@@ -6,7 +6,7 @@ use Rattle.tl_table.specs.declared.cell.Table.{Table}
 use Rattle.tl_nested.specs.Searched.{AreSectionsOf, AreWritable}
 use Rattle.tl_program.specs.declared.task.Task.{Task}
 use Rattle.tl_program.specs.Answers.{IsOutcomeOf}
-use Rattle.tl_program.specs.inner.Claims.{certificate_of}
+use Rattle.tl_narrow.specs.Certified.{certificate_of}
 
 -- the certificate has the sections of the search that is named, and claims what the last of them does
 pub record IsFound (task : Task) (table : Table) (budget : ℕ) (certificate : Certificate) : Type 0 where

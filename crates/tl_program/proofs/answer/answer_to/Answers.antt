@@ -3,7 +3,7 @@ use Rattle.std.proofs.Common.{◌≡◌, sym, subst, arith}
 use Rattle.tl_table.specs.declared.cell.Table.{Table}
 use Rattle.tl_table.specs.Least.{IsLeastWidth}
 use Rattle.tl_table.proofs.LinkLemmas.{IsLeastWidth-unique}
-use Rattle.tl_program.proofs.Laying.{own_first}
+use Rattle.tl_narrow.proofs.Certifying.{own_first}
 use Rattle.tl_program.proofs.answer.answer_to.Goals as goal
 
 pub too_narrow-requires-clause-least : goal.too_narrow-requires-clause-least

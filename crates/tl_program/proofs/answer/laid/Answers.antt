@@ -12,8 +12,10 @@ use Rattle.tl_form.specs.Valid.{IsValid}
 use Rattle.tl_form.specs.ValidLaws.{HasHeight}
 use Rattle.tl_nested.specs.Searched.{AreSectionsOf}
 use Rattle.tl_program.specs.Answers.{budget_in, certificate_file, IsOutcomeOf, IsLaidAs, IsReadBack}
-use Rattle.tl_program.specs.inner.Claims.{certificate_of, claim_of, report_of}
-use Rattle.tl_program.proofs.Laying.{claimed_height, few_columns, valid, writable, answered}
+use Rattle.tl_narrow.specs.Certified.{certificate_of, claim_of}
+use Rattle.tl_program.specs.inner.Claims.{report_of}
+use Rattle.tl_narrow.proofs.Certifying.{claimed_height, valid, writable}
+use Rattle.tl_program.proofs.Laying.{few_columns, answered}
 use Rattle.tl_program.proofs.answer.laid.Goals as goal
 
 pub layout-requires-clause-written : goal.layout-requires-clause-written

@@ -11,10 +11,10 @@ use Rattle.tl_program.specs.declared.limits.TheConstants.{DEMO_BUDGET}
 use Rattle.tl_command.specs.declared.options.Search.TheVariants.{Best}
 use Rattle.tl_program.specs.declared.task.Task.{Task}
 use Rattle.tl_program.specs.Answers.{IsOutcomeOf}
-use Rattle.tl_program.specs.inner.Claims.{certificate_of}
+use Rattle.tl_narrow.specs.Certified.{certificate_of}
 use Rattle.tl_program.specs.Demonstration.{before_last}
 use Rattle.tl_program.specs.inner.Summaries.{demo_task, HasOwnNext, IsCountAfter}
-use Rattle.tl_program.proofs.Laying.{writable}
+use Rattle.tl_narrow.proofs.Certifying.{writable}
 use Rattle.tl_program.proofs.Summing.{demo_sections, next_there, summary_made}
 use Rattle.tl_program.proofs.summary.summary_of.Goals as goal
 
