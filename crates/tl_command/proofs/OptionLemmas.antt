@@ -51,6 +51,7 @@ break_once one other e = absurd (omega (arith, ap (λ (word : List ℕ). get_or 
 search_once : (one other : Search) → search_word one ≡ search_word other → one ≡ other
 search_once searches.Plain searches.Plain e = refl
 search_once searches.Best searches.Best e = refl
+search_once searches.Learn searches.Learn e = refl
 search_once one other e = absurd (omega (arith, ap (λ (word : List ℕ). get_or word 0 0) e))
 
 -- where a word stands for at most one value, an option of it is told from what follows

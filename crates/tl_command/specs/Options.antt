@@ -1,4 +1,4 @@
--- The options of a command: `--style plain|compact|frame`, `--break words|any`, `--budget N`, `--solver plain|best`,
+-- The options of a command: `--style plain|compact|frame`, `--break words|any`, `--budget N`, `--solver plain|best|learn`,
 -- `--workers K`, `--csv`, `--head`, `--least LIST` and `--html`, in any order, each at most once, its value as the next argument.
 use Rattle.std.specs.Prelude.{◌≡◌, ◌≢◌, ◌↔◌, ℕ, ◌≤◌, Bool, true, false, List, [], ◌∷◌, ◌++◌, length, drop, Some, IsTrue, Contains}
 use Rattle.std.specs.Prelude.{codes, decimal}
@@ -27,6 +27,7 @@ break_word Any = codes "any"
 abbrev pub search_word : Search → List ℕ
 search_word searches.Plain = codes "plain"
 search_word searches.Best = codes "best"
+search_word searches.Learn = codes "learn"
 
 -- numbers with a comma before each
 abbrev pub comma_numbers : List ℕ → List ℕ

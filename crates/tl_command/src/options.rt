@@ -24,6 +24,8 @@ pub enum Search {
     Plain,
     /// Cuts where the lower bound is least.
     Best,
+    /// Cuts as the plain search does, and keeps what each part of the search has shown.
+    Learn,
 }
 
 /// An option that is given.

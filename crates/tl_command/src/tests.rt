@@ -23,6 +23,7 @@ const ASKS: &[(&str, &str)] = &[
     ("lay 7 t p --budget 100000", "lay 7 t p : budget=100000"),
     ("lay 7 t p --solver plain", "lay 7 t p : solver=plain"),
     ("lay 7 t p --solver best", "lay 7 t p : solver=best"),
+    ("lay 7 t p --solver learn", "lay 7 t p : solver=learn"),
     (
         "lay 7 t p c --style frame --break any --budget 5 --solver best --html",
         "lay 7 t p c : style=frame break=any budget=5 solver=best html",
@@ -235,7 +236,7 @@ const VALUES: &[&str] = &[
     "lay 7 t p --budget 18446744073709551616",
     "lay 7 t p --solver",
     "lay 7 t p --solver ",
-    "lay 7 t p --solver learn",
+    "lay 7 t p --solver learnt",
     "lay 7 t p --solver Best",
     "lay 7 t p --solver plain best",
     "lay 7 t p --html yes",
@@ -335,6 +336,7 @@ fn search_word(search: Search) -> &'static str {
     match search {
         Search::Plain => "plain",
         Search::Best => "best",
+        Search::Learn => "learn",
     }
 }
 

@@ -45,6 +45,7 @@ pub(crate) fn search_named(value: &str) -> Option<Choice>
     match value {
         "plain" => Some(Choice::Search(Search::Plain)),
         "best" => Some(Choice::Search(Search::Best)),
+        "learn" => Some(Choice::Search(Search::Learn)),
         _ => None,
     }
 }

@@ -6,6 +6,7 @@ use Rattle.tl_base.specs.declared.limits.TheConstants.{MAX_REACH}
 use Rattle.tl_base.specs.declared.breaking.Breaking.{Breaking}
 use Rattle.tl_base.specs.declared.style.Style.{Style}
 use Rattle.tl_astar.specs.Best.{IsBestOutcome}
+use Rattle.tl_branch.specs.Learn.{IsLearnOutcome}
 use Rattle.tl_solve.specs.Plain.{IsPlainOutcome}
 use Rattle.tl_solve.specs.declared.outcome.Outcome.{Outcome}
 use Rattle.tl_problem.specs.Problem.{ProblemModel}
@@ -88,6 +89,7 @@ IsReadBack false certificate = Unit {0}
 abbrev pub IsOutcomeOf : Search → ℕ → ProblemModel → Outcome → Type 0
 IsOutcomeOf kinds.Plain budget problem outcome = IsPlainOutcome problem outcome
 IsOutcomeOf kinds.Best budget problem outcome = IsBestOutcome problem budget outcome
+IsOutcomeOf kinds.Learn budget problem outcome = IsLearnOutcome problem outcome
 
 -- the file is a page of the table: that of this layout, which fits a page of `width` columns, has so many lines and takes so
 -- many columns

@@ -3,6 +3,7 @@
 ghost use Rattle.std.specs.Prelude.{◌≤◌, ℕ, IfOk};
 ghost use Rattle.tl_base.specs.declared.limits.TheConstants.{MAX_BUDGET, MAX_PAGE_WIDTH};
 ghost use Rattle.tl_astar.specs.Best.{IsBestOutcome};
+ghost use Rattle.tl_branch.specs.Learn.{IsLearnOutcome};
 ghost use Rattle.tl_solve.specs.Plain.{IsPlainOutcome};
 ghost use Rattle.tl_table.specs.Least.{IsLeastWidth};
 ghost use Rattle.tl_table.specs.Sound.{IsSound};
@@ -17,6 +18,7 @@ use std::alloc::{AllocError, Global};
 use std::thread::Threads;
 use tl_astar::Best;
 use tl_base::{Gate, List, MAX_PAGE_WIDTH};
+use tl_branch::Learn;
 use tl_cert::Section;
 use tl_command::Search;
 use tl_narrow::{Slim, slimmest};
@@ -49,6 +51,20 @@ impl Make for MakeBest {
 
     fn make(&self, alloc: Global) -> Result<Best, AllocError> {
         Ok(Best::new(alloc))
+    }
+}
+
+/// Makes searches that learn.
+#[derive(Clone, Copy)]
+struct MakeLearn;
+
+impl Make for MakeLearn {
+    type Made = Learn;
+
+    ghost besides = { λ _ problem _ outcome. IsLearnOutcome problem outcome };
+
+    fn make(&self, alloc: Global) -> Result<Learn, AllocError> {
+        Ok(Learn::new(alloc))
     }
 }
 
@@ -92,6 +108,17 @@ pub fn searched<R: Threads + Sync, G: Gate>(
             &MakeBest,
             gate,
         ),
+        Search::Learn => sections(
+            rt,
+            alloc,
+            table,
+            task.style,
+            task.width,
+            budget,
+            task.workers,
+            &MakeLearn,
+            gate,
+        ),
     }
 }
 
@@ -133,6 +160,19 @@ pub fn slimmest_by<R: Threads + Sync, G: Gate>(
             budget,
             task.workers,
             &MakeBest,
+            gate,
+        ),
+        Search::Learn => slimmest(
+            rt,
+            alloc,
+            table,
+            task.style,
+            height,
+            MAX_PAGE_WIDTH,
+            None,
+            budget,
+            task.workers,
+            &MakeLearn,
             gate,
         ),
     }

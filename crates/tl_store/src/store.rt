@@ -1,6 +1,6 @@
 //! The nogoods that a search has learnt, by their numbers from 0 in the order in which they were added.
 
-ghost use Rattle.std.specs.Prelude.{◌≡◌, ◌<◌, ◌≤◌, [], length, IfOk, OnErr, MatchOption};
+ghost use Rattle.std.specs.Prelude.{◌≡◌, ◌<◌, ◌≤◌, ◌↔◌, [], length, IfOk, IsTrue, OnErr, MatchOption};
 ghost use Rattle.tl_problem.specs.Zones.{InZone, IsZone};
 ghost use Rattle.tl_cert.specs.Lines.{IsGoodLine};
 ghost use Rattle.tl_cert.specs.Nogoods.{NamesAreThere, nogood_bounds};
@@ -132,5 +132,25 @@ impl Store {
             line,
             lower,
         )
+    }
+
+    /// Whether the line would be good for `lower` at the end of the log.
+    pub fn tries(
+        &mut self,
+        problem: &Problem,
+        trace: &Trace,
+        log: &Log,
+        line: &LogLine,
+        lower: u32,
+    ) -> bool
+        requires store { IsStoreOf problem.now self.old }
+        requires reserved { IsReserved problem.now (length trace.now) self.old.checker }
+        requires trace { IsTraceOf problem.now trace.now }
+        ensures good { IsTrue result ↔ IsGoodLine problem.now trace.now log.now lower (length log.now) line.now }
+        ensures kept { nogoods_of self.new ≡ nogoods_of self.old }
+        ensures store { IsStoreOf problem.now self.new }
+        ensures stays { StaysReserved problem.now self.old.checker self.new.checker }
+    {
+        self.checker.tries(problem, trace, log, line, lower)
     }
 }

@@ -1,5 +1,6 @@
 //! Certificates that nothing but the format decides: chains of the narrow, and searches without a cut.
 
+use crate::tests::pages::FOUR;
 use crate::tests::{Case, NESTED, SPANNED, TWO, check, desk, held, repeated, status_of};
 use std::test::Fail;
 
@@ -174,4 +175,23 @@ fn a_certificate_names_what_it_was_made_for(rt: HostRuntime) -> Result<(), Fail>
         assert!(rt; status == 0 && named, "{line}: {status}");
     }
     Ok(())
+}
+
+/// Three cuts: the lines of two of the zones have been shrunk to one bound each, and join.
+const LEARNT: &str = "tablelayout 1 25 plain 3\nlowest 4\nsection 0 25 4 4 3 3\nwidths 1 1 4 4\n\
+     cut 0 0 0\ncut 1 1 0\ncut 3 2 0\n2-8 chain\n2+9 chain\nz0 @0 @1 fired\nend\n";
+
+#[test]
+fn a_search_that_learns_writes_lines_of_few_bounds(rt: HostRuntime) -> Result<(), Fail> {
+    check(
+        &rt,
+        &Case {
+            line: "lay 25 t.html p.txt c.txt --solver learn --budget 3",
+            file: FOUR,
+            status: 0,
+            page: Some("a  b  c         \na  b  c         \np  q  cccc  dddd\n      cccc  dddd\n"),
+            certificate: Some(LEARNT),
+            message: "lowest height 4 width 16\n",
+        },
+    )
 }

@@ -576,6 +576,7 @@ fn a_stored_certificate_is_accepted_with_the_same_message(rt: HostRuntime) -> Re
     for &(width, file, options) in LAID_OUT {
         laid_and_checked(&rt, width, file, options, "")?;
         laid_and_checked(&rt, width, file, options, " --solver plain")?;
+        laid_and_checked(&rt, width, file, options, " --solver learn")?;
     }
     Ok(())
 }

@@ -316,7 +316,7 @@ fn nested_tables_are_laid_out(rt: HostRuntime) -> Result<(), Fail> {
 
 /// The upper row has two lines for its last cell. The lower row has one only where both its long cells
 /// have 9 columns each, which takes 26 columns with the gaps.
-const FOUR: &str =
+pub const FOUR: &str =
     "<table><tr><td>a a<td>b b<td>c<br>c<tr><td>p<td>q<td>cccc cccc<td>dddd dddd</table>";
 
 /// Where the budget is spent, the page is the lowest found, with a bound that no page is below.
@@ -331,6 +331,22 @@ const SPENT: &[Case<'static>] = &[
     },
     Case {
         line: "lay 12 t.html p.txt --budget 6",
+        file: TWO,
+        status: 0,
+        page: Some("aaa  cc dd\nbbb  ee   \n"),
+        certificate: None,
+        message: "lowest height 2 width 10\n",
+    },
+    Case {
+        line: "lay 12 t.html p.txt --budget 0 --solver learn",
+        file: TWO,
+        status: 3,
+        page: Some("aaa  cc\nbbb  dd\n     ee\n"),
+        certificate: None,
+        message: "bounded height 3 lower 2 width 7\n",
+    },
+    Case {
+        line: "lay 12 t.html p.txt --budget 6 --solver learn",
         file: TWO,
         status: 0,
         page: Some("aaa  cc dd\nbbb  ee   \n"),
@@ -363,6 +379,8 @@ fn each_search_finds_the_least_height(rt: HostRuntime) -> Result<(), Fail> {
         "lay 25 t.html p.txt --solver best",
         "lay 25 t.html p.txt --solver plain",
         "lay 25 t.html p.txt --solver plain --budget 7",
+        "lay 25 t.html p.txt --solver learn",
+        "lay 25 t.html p.txt --solver learn --budget 3",
     ] {
         let mut desk = desk(rt.alloc(), FOUR.as_bytes(), &[])?;
         let status = status_of(&rt, rt.alloc(), line, &mut desk)?;

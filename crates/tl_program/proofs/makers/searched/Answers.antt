@@ -17,3 +17,9 @@ returns-in-Best-clause-expected g c =
     subst (λ (kind : Search). IfOk c.sections-in-Best.result
     (AreSectionsOf (IsOutcomeOf kind c.args.budget) c.args.table.now c.args.task.now.style
     c.args.task.now.width c.args.budget)) (sym c.in-Best.is) c.sections-in-Best.ensures.expected
+
+pub returns-in-Learn-clause-expected : goal.returns-in-Learn-clause-expected
+returns-in-Learn-clause-expected g c =
+    subst (λ (kind : Search). IfOk c.sections-in-Learn.result
+    (AreSectionsOf (IsOutcomeOf kind c.args.budget) c.args.table.now c.args.task.now.style
+    c.args.task.now.width c.args.budget)) (sym c.in-Learn.is) c.sections-in-Learn.ensures.expected

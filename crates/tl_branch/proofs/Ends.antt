@@ -1,0 +1,259 @@
+-- The end of the search: the least of the bounds that are left open, and what is learnt.
+use Rattle.std.proofs.Common.{◌≡◌, ℕ, ◌+◌, ◌<◌, min, Bool, true, false, List, [], ◌∷◌, inl, inr}
+use Rattle.std.proofs.Common.{suc, length, get_or, Option, Some, None, refl, sym, ap, ◌∙◌, subst, arith}
+use Rattle.std.specs.List.{All, AllByRecursion, Contains}
+use Rattle.std.proofs.lemmas.Bool.{cases_lt}
+use Rattle.tl_base.proofs.Members.{Contains-first, Contains-none}
+use Rattle.tl_problem.specs.Problem.{ProblemModel}
+use Rattle.tl_problem.specs.Agreement.{LowIsHigh}
+use Rattle.tl_problem.specs.Zones.{InZone}
+use Rattle.tl_problem.proofs.BoundLaws.{bound-unique}
+use Rattle.tl_cert.specs.declared.log.Bound.{Bound}
+use Rattle.tl_cert.specs.declared.trace.CutAt.{CutAt}
+use Rattle.tl_cert.specs.Learnt.{IsLearnt}
+use Rattle.tl_cert.specs.Lines.{IsGoodLog}
+use Rattle.tl_cert.specs.Pieces.{IsPieceInRange}
+use Rattle.tl_cert.specs.Text.{IsLineShaped, IsLogWritable, line_pieces}
+use Rattle.tl_cert.specs.Traces.{Stands, zone_of}
+use Rattle.tl_cert.specs.Worked.{IsBoundOf}
+use Rattle.tl_solve.specs.declared.arena.Arena.{Arena}
+use Rattle.tl_solve.specs.declared.outcome.Outcome.{Outcome}
+use Rattle.tl_solve.specs.Arenas.{IsBoundFound, AreBoundsOf, IsLowered}
+use Rattle.tl_solve.specs.CutsFound.{IsCutFound, AreCutsOf}
+use Rattle.tl_solve.specs.Ends.{HasBoundUpTo, MayEnd}
+use Rattle.tl_solve.specs.Orders.{CutsFirstSpans, CutsBelowPlacements, IsInClassOrder}
+use Rattle.tl_solve.specs.inner.Walk.{KeepsClassOrder}
+use Rattle.tl_solve.proofs.Writable.{all-flat_map}
+use Rattle.tl_store.proofs.SameBounds.{zero-bounds}
+use Rattle.tl_branch.specs.declared.learning.Learning.{Learning}
+use Rattle.tl_branch.specs.Learn.{IsLearnOutcome}
+use Rattle.tl_branch.specs.inner.Learnings.{IsLearning, IsGrown, HasLine, log_nogoods}
+use Rattle.tl_branch.specs.inner.Opens.{IsLeastUpto, IsLeastOpen, MayFinish, OpenProve, least_with}
+use Rattle.tl_branch.proofs.Order.{passed-stay}
+use Rattle.tl_branch.proofs.Zones.{nogoods-count}
+
+-- ---- one zone more
+
+module _ (cuts lines bounds : List (Option ℕ)) (height upto least : ℕ)
+    (is : IsLeastUpto cuts lines bounds height upto least) where
+  -- a zone that is cut, has a line or has no widths changes nothing
+  least-skip : ((bound : ℕ) → get_or cuts upto None ≡ None → get_or lines upto None ≡ None →
+      get_or bounds upto None ≡ Some bound → ⊥) → IsLeastUpto cuts lines bounds height (upto + 1) least
+  least-skip none = record {
+    at_most = is.at_most;
+    never_more = λ z bound within uncut unlined found. elim (cases_lt z upto) [
+      | inl old ↦ is.never_more z bound old uncut unlined found
+      | inr new ↦
+          let last : z ≡ upto = omega (arith, within, new) in
+          absurd (none bound (subst (λ (n : ℕ). get_or cuts n None ≡ None) last uncut)
+          (subst (λ (n : ℕ). get_or lines n None ≡ None) last unlined)
+          (subst (λ (n : ℕ). get_or bounds n None ≡ Some bound) last found))
+    ];
+    attained = elim is.attained [
+      | inl same ↦ inl same
+      | inr some ↦ inr (some.0, some.1, omega (arith, some.2), some.3, some.4, some.5, some.6)
+    ];
+  }
+
+  -- another may have a bound that is less
+  least-bound : (bound : ℕ) → get_or cuts upto None ≡ None → get_or lines upto None ≡ None →
+      get_or bounds upto None ≡ Some bound → IsLeastUpto cuts lines bounds height (upto + 1) (min least bound)
+  least-bound bound uncut unlined found = record {
+    at_most = omega (arith, is.at_most);
+    never_more = λ z other within no_cut no_line has. elim (cases_lt z upto) [
+      | inl old ↦ let before = is.never_more z other old no_cut no_line has in omega (arith, before)
+      | inr new ↦
+          let last : z ≡ upto = omega (arith, within, new) in
+          let same : Some bound ≡ Some other = sym found ∙ subst (λ (n : ℕ). get_or bounds n None ≡ Some other) last has in
+          let equal : bound ≡ other = cc in
+          omega (arith, equal)
+    ];
+    attained = elim (cases_lt bound least) [
+      | inl less ↦ inr (upto, bound, omega arith, uncut, unlined, found, omega (arith, less))
+      | inr more ↦ elim is.attained [
+        | inl same ↦ inl (omega (arith, same, more))
+        | inr some ↦ inr (some.0, some.1, omega (arith, some.2), some.3, some.4, some.5, omega (arith, some.6, more))
+      ]
+    ];
+  }
+
+  least-of : (cut line bound : Option ℕ) → get_or cuts upto None ≡ cut → get_or lines upto None ≡ line →
+      get_or bounds upto None ≡ bound → IsLeastUpto cuts lines bounds height (upto + 1) (least_with least cut line bound)
+  least-of (Some i) line bound is_cut is_line found = least-skip (λ b uncut unlined has.
+      let differ : Some i ≡ None = sym is_cut ∙ uncut in cc)
+  least-of None (Some k) bound is_cut is_line found = least-skip (λ b uncut unlined has.
+      let differ : Some k ≡ None = sym is_line ∙ unlined in cc)
+  least-of None None None is_cut is_line none = least-skip (λ b uncut unlined has. let differ : None ≡ Some b = sym none ∙ has in cc)
+  least-of None None (Some bound) is_cut is_line found = least-bound bound is_cut is_line found
+
+  pub least-next : IsLeastUpto cuts lines bounds height (upto + 1)
+      (least_with least (get_or cuts upto None) (get_or lines upto None) (get_or bounds upto None))
+  least-next = least-of (get_or cuts upto None) (get_or lines upto None) (get_or bounds upto None) refl refl refl
+
+-- ---- all of them
+
+module _ (problem : ProblemModel) (trace : List CutAt) (cuts lines bounds : List (Option ℕ))
+    (are : AreCutsOf trace (length trace) cuts) (found : AreBoundsOf problem trace bounds) where
+  -- a zone that no cut has stands
+  stands-none : (z : ℕ) → z < length bounds → get_or cuts z None ≡ None → Stands trace z
+  stands-none z within none =
+      let not = subst (IsCutFound trace (length trace) z) none
+      (are.each z None (omega (arith, within, found.count, are.count))) in
+      record { there = omega (arith, within, found.count); not_cut = λ i d inside. not i d inside }
+
+  none-stands : (z : ℕ) → Stands trace z → (o : Option ℕ) → get_or cuts z None ≡ o → get_or cuts z None ≡ None
+  none-stands z stands None is = is
+  none-stands z stands (Some i) is =
+      let cut = subst (IsCutFound trace (length trace) z) is (are.each z None (omega (arith, stands.there, are.count))) in
+      absurd (stands.not_cut i (record { zone = 0; span = 0; class = 0 }) cut.0
+      (cut.1 (record { zone = 0; span = 0; class = 0 })))
+
+  bound-some : (z bound : ℕ) → z < length bounds → IsBoundOf problem trace z bound → (o : Option ℕ) → get_or bounds z None ≡ o →
+      get_or bounds z None ≡ Some bound
+  bound-some z bound within is None none =
+      let empty = subst (IsBoundFound problem (zone_of problem trace z)) none (found.each z None within) in
+      absurd (empty is.some.0 is.some.1)
+  bound-some z bound within is (Some other) some =
+      let has = subst (IsBoundFound problem (zone_of problem trace z)) some (found.each z None within) in
+      some ∙ ap Some (bound-unique problem (InZone problem (zone_of problem trace z)) other bound has is)
+
+  pub least-open : (height lower : ℕ) → IsLeastUpto cuts lines bounds height (length bounds) lower →
+      IsLeastOpen problem trace lines height lower
+  least-open height lower is = record {
+    at_most = is.at_most;
+    never_more = λ z bound stands none has.
+        let within : z < length bounds = omega (arith, stands.there, found.count) in
+        is.never_more z bound within (none-stands z stands (get_or cuts z None) refl) none
+        (bound-some z bound within has (get_or bounds z None) refl);
+    attained = elim is.attained [
+      | inl same ↦ inl same
+      | inr some ↦ inr (
+        some.0,
+        some.1,
+        stands-none some.0 some.2 some.3,
+        some.4,
+        subst (IsBoundFound problem (zone_of problem trace some.0)) some.5 (found.each some.0 None some.2),
+        omega (arith, some.6),
+      )
+    ];
+  }
+
+-- ---- zones get lines
+
+pub proves-grown : (problem : ProblemModel) (old new : Learning) → IsGrown old new →
+    OpenProve problem old.arena.trace old.lines.items old.height → OpenProve problem new.arena.trace new.lines.items new.height
+proves-grown problem old new grown proves z bound stands none is =
+    let was = proves z bound (subst (λ (arena : Arena). Stands arena.trace z) grown.arena stands)
+    (unlined (get_or old.lines.items z None) refl)
+    (subst (λ (arena : Arena). IsBoundOf problem arena.trace z bound) grown.arena is) in
+    omega (arith, was, grown.height) where
+      unlined : (o : Option ℕ) → get_or old.lines.items z None ≡ o → get_or old.lines.items z None ≡ None
+      unlined None same = same
+      unlined (Some k) same =
+          let line = grown.lines z (k, same) in
+          let never : Some (line.0) ≡ None = sym line.1 ∙ none in
+          absurd cc
+
+nothing-in : (xs : List Bound) → ((x : Bound) → Contains xs x → ⊥) → xs ≡ []
+nothing-in [] none = refl
+nothing-in (x ∷ xs) none = absurd (none x (Contains-first x xs))
+
+-- the whole has a line only where the last nogood has no bounds
+pub whole-ends : (problem : ProblemModel) (l : Learning) → IsLearning problem l → HasLine l.lines.items 0 → l.done ≡ false → ⊥
+whole-ends problem l is line going =
+    let of_zone = is.lines.each 0 line.0 line.1 in
+    is.going going line.0 of_zone.there (nothing-in (get_or (log_nogoods problem l) line.0 []) (λ b has. Contains-none b
+    (subst (λ (bs : List Bound). Contains bs b) (zero-bounds problem l.arena.trace is.arena.trace_of) (of_zone.among b has))))
+
+pub ended-by : (l : Learning) (done : Bool) → l.done ≡ done → (l.done ≡ false → ⊥) → l.done ≡ true
+ended-by l true same not = same
+ended-by l false same not = absurd (not same)
+
+-- ---- what the outcome has
+
+module _ (problem : ProblemModel) (l : Learning) (is : IsLearning problem l) where
+  -- the lower bound is below the best height only where zones are left
+  pub may-end : (lower : ℕ) → MayFinish problem l → IsLeastOpen problem l.arena.trace l.lines.items l.arena.best.height lower →
+      lower < l.arena.best.height → MayEnd problem l.arena.trace l.arena.best.height l.budget
+  may-end lower (inl spent) least less = inl spent
+  may-end lower (inr all) least less = elim least.attained [
+    | inl same ↦ absurd (omega (arith, same, less))
+    | inr (z, bound, stands, none, has, enough) ↦ by l.low_is_high refl z stands none
+  ] where
+    by : (low : Bool) → l.low_is_high ≡ low → (z : ℕ) → Stands l.arena.trace z → get_or l.lines.items z None ≡ None →
+        MayEnd problem l.arena.trace l.arena.best.height l.budget
+    by true low z stands none =
+        let line = (all z stands).written low in
+        let never : Some (line.0) ≡ None = sym line.1 ∙ none in
+        absurd cc
+    by false unlike z stands none = inr (λ y still. (all y still).closed unlike)
+
+  pub bound-open : (lower : ℕ) → IsLeastOpen problem l.arena.trace l.lines.items l.arena.best.height lower →
+      lower < l.arena.best.height → HasBoundUpTo problem l.arena.trace lower
+  bound-open lower least less = elim least.attained [
+    | inl same ↦ absurd (omega (arith, same, less))
+    | inr (z, bound, stands, none, has, enough) ↦ (z, bound, stands, has, enough)
+  ]
+
+  -- once the open zones have lines for the lower bound
+  module _ (lower : ℕ) (least : IsLeastOpen problem l.arena.trace l.lines.items l.arena.best.height lower) (new : Learning)
+      (grown : IsGrown (record l { height = lower }) new) where
+    below-best : new.height < new.arena.best.height → lower < l.arena.best.height
+    below-best less = omega (arith, less, grown.height, ap (λ (arena : Arena). arena.best.height) grown.arena)
+
+    pub grown-ended : MayFinish problem l → new.height < new.arena.best.height →
+        MayEnd problem new.arena.trace new.arena.best.height new.budget
+    grown-ended may less = subst (λ (arena : Arena). MayEnd problem arena.trace arena.best.height new.budget) (sym grown.arena)
+        (subst (MayEnd problem l.arena.trace l.arena.best.height) (sym grown.budget) (may-end lower may least (below-best less)))
+
+    pub grown-open : new.height < new.arena.best.height → HasBoundUpTo problem new.arena.trace new.height
+    grown-open less = subst (λ (arena : Arena). HasBoundUpTo problem arena.trace new.height) (sym grown.arena)
+        (subst (HasBoundUpTo problem l.arena.trace) (sym grown.height) (bound-open lower least (below-best less)))
+
+  pub log-good : l.done ≡ true → IsGoodLog problem l.arena.trace l.log l.height
+  log-good done = record {
+    some = (is.ended done).some;
+    lines = λ k d within. (is.lines_good k d within).good;
+    last = (is.ended done).last;
+  }
+
+  all-by_recursion : {X : Type 0} (P : X → Type 0) (xs : List X) → All P xs → AllByRecursion P xs
+  all-by_recursion P [] all = tt
+  all-by_recursion P (x ∷ xs) all = (all 0 x (omega arith), all-by_recursion P xs (λ i d within. all (suc i) d (omega arith)))
+
+  pub log-writable : IsLogWritable l.log
+  log-writable = (
+    all-by_recursion IsLineShaped l.log (λ k d within. (is.lines_good k d within).writable.shaped),
+    all-flat_map IsPieceInRange line_pieces l.log (λ k d within. (is.lines_good k d within).writable.within),
+  )
+
+  learnt : IsInClassOrder l.arena.trace → LowIsHigh problem → IsLearnt problem l.arena.opening l.arena.trace l.log
+  learnt order low =
+      let known = is.known (is.agree.1 low) in
+      record {
+        stay = passed-stay problem l.arena.trace is.arena.trace_of order;
+        enough = λ i d within. (
+          (known i d within).n,
+          omega (arith, (known i d within).there, nogoods-count problem l.arena.trace l.log),
+          (known i d within).enough,
+        );
+        not_closed = λ i d within k is_known closes. (known i d within).none k
+            (is_known (known i d within).n (known i d within).enough) closes;
+        shrunk = λ k d within few. (is.lines_good k d within).minimal few;
+      }
+
+  pub learn-outcome : KeepsClassOrder problem l.arena.trace → (outcome : Outcome) → outcome.best ≡ l.arena.best →
+      outcome.trace ≡ l.arena.trace → outcome.log ≡ l.log → IsLearnOutcome problem outcome
+  learn-outcome keeps outcome best trace log =
+      let opening = is.arena.opening in
+      record {
+        opening = opening.0;
+        is_opening = opening.1;
+        lowered = subst (IsLowered opening.0) (sym best) opening.3;
+        spans = subst (CutsFirstSpans problem) (sym trace) keeps.spans;
+        below = subst (CutsBelowPlacements problem) (sym trace) keeps.below;
+        order = subst IsInClassOrder (sym trace) keeps.order;
+        learnt = λ low. subst (λ (h : ℕ). IsLearnt problem h outcome.trace outcome.log) (sym opening.2)
+            (subst (λ (t : List CutAt). IsLearnt problem l.arena.opening t outcome.log) (sym trace)
+            (subst (IsLearnt problem l.arena.opening l.arena.trace) (sym log) (learnt keeps.order low)));
+      }

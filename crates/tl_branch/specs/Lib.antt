@@ -1,0 +1,2 @@
+pub mod Learn
+pub mod inner

@@ -1,0 +1,44 @@
+-- No public clause cites this file. What the zones prove that a search leaves without a line.
+use Rattle.std.specs.Prelude.{◌≡◌, ◌⊎◌, ℕ, ◌+◌, ◌*◌, ◌<◌, ◌≤◌, min, List, get_or, length, Option, Some, None}
+use Rattle.tl_problem.specs.Problem.{ProblemModel}
+use Rattle.tl_cert.specs.declared.trace.CutAt.{CutAt}
+use Rattle.tl_cert.specs.Traces.{Stands}
+use Rattle.tl_cert.specs.Worked.{IsBoundOf}
+use Rattle.tl_branch.specs.declared.learning.Learning.{Learning}
+use Rattle.tl_branch.specs.inner.Learnings.{HasLine, IsHandled}
+
+-- each zone that stands without a line has no widths, or a bound of at least the height
+abbrev pub OpenProve : ProblemModel → List CutAt → List (Option ℕ) → ℕ → Type 0
+OpenProve problem trace lines height = (z bound : ℕ) → Stands trace z → get_or lines z None ≡ None → IsBoundOf problem trace z bound →
+    height ≤ bound
+
+-- `lower` is the least of the height and of the bounds of the zones that stand without a line
+pub record IsLeastOpen (problem : ProblemModel) (trace : List CutAt) (lines : List (Option ℕ)) (height lower : ℕ) : Type 0 where
+  pub at_most : lower ≤ height
+  pub never_more : OpenProve problem trace lines lower
+  pub attained : (lower ≡ height) ⊎ ((z bound : ℕ) × Stands trace z × (get_or lines z None ≡ None) ×
+      IsBoundOf problem trace z bound × (bound ≤ lower))
+
+-- a number, or the bound of a zone that has neither a cut nor a line, where that is less
+abbrev pub least_with : ℕ → Option ℕ → Option ℕ → Option ℕ → ℕ
+least_with least None None (Some bound) = min least bound
+least_with least None None None = least
+least_with least None (Some line) bound = least
+least_with least (Some cut) line bound = least
+
+-- the least of the height and of the bounds, among the first ones, of zones that have neither a cut nor a line
+pub record IsLeastUpto (cuts lines bounds : List (Option ℕ)) (height upto least : ℕ) : Type 0 where
+  pub at_most : least ≤ height
+  pub never_more : (z bound : ℕ) → z < upto → get_or cuts z None ≡ None → get_or lines z None ≡ None →
+      get_or bounds z None ≡ Some bound → least ≤ bound
+  pub attained : (least ≡ height)
+      ⊎ ((z bound : ℕ) × (z < upto) × (get_or cuts z None ≡ None) × (get_or lines z None ≡ None)
+      × (get_or bounds z None ≡ Some bound) × (bound ≡ least))
+
+-- each zone from this one on has a line
+abbrev pub HaveLinesFrom : List CutAt → List (Option ℕ) → ℕ → Type 0
+HaveLinesFrom trace lines above = (z : ℕ) → above ≤ z → z < 2 * length trace + 1 → HasLine lines z
+
+-- the search may end: it made all cuts of its budget, or each zone that stands was handled
+abbrev pub MayFinish : ProblemModel → Learning → Type 0
+MayFinish problem l = (length l.arena.trace ≡ l.budget) ⊎ ((z : ℕ) → Stands l.arena.trace z → IsHandled problem l z)

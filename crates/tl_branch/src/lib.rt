@@ -1,0 +1,14 @@
+//! The search that learns: zones in the order of their classes, each closed zone with a line whose bounds are
+//! shrunk to those that matter, and no zone cut that a line known by then closes. It knows no table and no
+//! text. Its one contract: the promises of every search, the order in which it cuts zones, and, where `low`
+//! is `high` for every cell, a trace and a log that are learnt.
+#![tactic(auto)]
+
+mod agreement;
+mod learn;
+mod learning;
+mod lines;
+mod lower;
+mod opens;
+
+pub use learn::Learn;

@@ -1,0 +1,350 @@
+//! Nogoods and lines that were drawn by hand, over problems that were counted by hand.
+
+ghost use Rattle.std.specs.Prelude.{◌+◌, ◌<◌, ◌≤◌, length, IfOk};
+ghost use Rattle.tl_problem.specs.Zones.{IsZone};
+ghost use Rattle.tl_cert.specs.Traces.{IsTraceOf};
+ghost use Rattle.tl_check.specs.Checkers.{IsReserved, StaysReserved};
+ghost use Rattle.tl_store.specs.Stores.{IsStoreOf};
+
+use std::alloc::Global;
+use std::test::Fail;
+use tl_base::{Config, List, Steps, Style};
+use tl_cert::{Bound, CutAt, End, Log, LogLine, Nogood, Side, Trace};
+use tl_check::Checker;
+use tl_problem::{Cell, Problem, Zone};
+use tl_store::Store;
+
+fn share<T: Send + Sync + Drop>(_value: T) {}
+
+#[test]
+fn a_store_may_go_to_other_threads() {
+    share::<Option<Store>>(None);
+}
+
+fn config(width: u32, height: u32) -> Config {
+    Config { width, height }
+}
+
+fn steps(alloc: Global, configs: &[Config]) -> Result<Steps, Fail> {
+    let list = List::from_slice(alloc, configs)?;
+    let Some(steps) = Steps::new(list) else {
+        return Err("the configurations are no steps".into());
+    };
+    Ok(steps)
+}
+
+/// A cell of one row and one column or more.
+fn cell(
+    alloc: Global,
+    columns: (u32, u32),
+    row: u32,
+    low: &[Config],
+    high: &[Config],
+) -> Result<Cell, Fail>
+    requires { row < 1000 }
+{
+    Ok(Cell {
+        left: columns.0,
+        right: columns.1,
+        top: row,
+        bottom: row + 1,
+        low: steps(alloc, low)?,
+        high: steps(alloc, high)?,
+    })
+}
+
+/// Puts a cell of one row after the others, which has the same steps by `low` and by `high`.
+fn add(
+    alloc: Global,
+    cells: &mut List<Cell>,
+    columns: (u32, u32),
+    row: u32,
+    configs: &[Config],
+) -> Result<(), Fail>
+    requires { row < 1000 }
+{
+    cells.push(cell(alloc, columns, row, configs, configs)?)?;
+    Ok(())
+}
+
+/// The problem in style plain, where it is sound.
+fn problem(
+    alloc: Global,
+    cols: u32,
+    rows: u32,
+    width: u32,
+    cells: List<Cell>,
+) -> Result<Problem, Fail> {
+    if !Problem::is_sound(cols, rows, Style::Plain, width, cells.as_slice()) {
+        return Err("the cells are no sound problem".into());
+    }
+    Ok(Problem::new(alloc, cols, rows, Style::Plain, width, cells)?)
+}
+
+/// Four columns on a page of 25: `a a`, `b b` and a `c` of two lines in the upper row; `p`, `q`,
+/// `cccc cccc` and `dddd dddd` in the lower.
+fn two_rows(alloc: Global) -> Result<Problem, Fail> {
+    let short = [config(1, 2), config(3, 1)];
+    let long = [config(4, 2), config(9, 1)];
+    let high = [config(1, 2)];
+    let low = [config(1, 1)];
+    let mut cells = List::new(alloc);
+    add(alloc, &mut cells, (0, 1), 0, &short)?;
+    add(alloc, &mut cells, (1, 2), 0, &short)?;
+    add(alloc, &mut cells, (2, 3), 0, &high)?;
+    add(alloc, &mut cells, (0, 1), 1, &low)?;
+    add(alloc, &mut cells, (1, 2), 1, &low)?;
+    add(alloc, &mut cells, (2, 3), 1, &long)?;
+    add(alloc, &mut cells, (3, 4), 1, &long)?;
+    problem(alloc, 4, 2, 25, cells)
+}
+
+fn at_most(span: u32, width: u32) -> Bound {
+    Bound {
+        span,
+        side: Side::Most,
+        width,
+    }
+}
+
+fn at_least(span: u32, width: u32) -> Bound {
+    Bound {
+        span,
+        side: Side::Least,
+        width,
+    }
+}
+
+/// A line of these bounds that fires none and ends by `chain`.
+fn chain_line(alloc: Global, bounds: &[Bound]) -> Result<LogLine, Fail> {
+    Ok(LogLine {
+        nogood: Nogood::Bounds(List::from_slice(alloc, bounds)?),
+        fires: List::new(alloc),
+        end: End::Chain,
+    })
+}
+
+/// Adds the line where it is good for no line of height, which asks that its spans are there.
+fn add_line(
+    alloc: Global,
+    store: &mut Store,
+    problem: &Problem,
+    trace: &Trace,
+    bounds: &[Bound],
+) -> Result<u32, Fail>
+    requires store { IsStoreOf problem.now store.old }
+    requires reserved { IsReserved problem.now (length trace.now) store.old.checker }
+    requires trace { IsTraceOf problem.now trace.now }
+    ensures store { IsStoreOf problem.now store.new }
+    ensures stays { StaysReserved problem.now store.old.checker store.new.checker }
+{
+    let line = chain_line(alloc, bounds)?;
+    let log: Log = List::new(alloc);
+    if !store.tries(problem, trace, &log, &line, 0) {
+        return Err("the line is not good".into());
+    }
+    let number = store.add(problem, trace, &line)?;
+    Ok(number)
+}
+
+/// No cuts, which are a trace.
+fn no_cuts(alloc: Global, problem: &Problem) -> Result<Trace, Fail>
+    ensures { IfOk result (λ trace. (length trace ≤ 0) × IsTraceOf problem.now trace) }
+{
+    let trace: Trace = List::new(alloc);
+    let mut checker = Checker::reserve(alloc, problem, 0)?;
+    if !checker.trace(problem, &trace) {
+        return Err("no cuts are a trace".into());
+    }
+    Ok(trace)
+}
+
+// The order of bounds does not matter, nor how often one is written.
+#[test]
+fn a_nogood_that_is_there_keeps_its_number(rt: HostRuntime) -> Result<(), Fail> {
+    let alloc = rt.alloc();
+    let problem = two_rows(alloc)?;
+    let trace = no_cuts(alloc, &problem)?;
+    let mut store = Store::new(alloc, &problem, 0)?;
+    let one = add_line(alloc, &mut store, &problem, &trace, &[at_most(2, 8)])?;
+    let two = add_line(
+        alloc,
+        &mut store,
+        &problem,
+        &trace,
+        &[at_most(2, 8), at_most(0, 2)],
+    )?;
+    let again = add_line(alloc, &mut store, &problem, &trace, &[at_most(2, 8)])?;
+    let turned = add_line(
+        alloc,
+        &mut store,
+        &problem,
+        &trace,
+        &[at_most(0, 2), at_most(2, 8), at_most(0, 2)],
+    )?;
+    let other = add_line(alloc, &mut store, &problem, &trace, &[at_least(2, 8)])?;
+    assert_eq!(rt; (one, two, again, turned, other), (0, 1, 0, 1, 2));
+    Ok(())
+}
+
+/// The parts of the whole, cut at the span after its first class.
+fn parts(problem: &Problem, span: u32) -> Result<(Zone, Zone), Fail>
+    ensures lower { IfOk result (λ parts. IsZone problem.now parts.0) }
+    ensures upper { IfOk result (λ parts. IsZone problem.now parts.1) }
+{
+    // The cells come with the fact that the problem is sound.
+    let _cells = problem.cells();
+    let whole = problem.whole()?;
+    let ranges = whole.ranges();
+    let number = span as usize;
+    if number >= ranges.len() || ranges[number].first > 0 || ranges[number].last == 0 {
+        return Err("the span has one class".into());
+    }
+    let parts = whole.cut(span, 0)?;
+    Ok(parts)
+}
+
+// The third column is at most 8 wide in the lower part and at least 9 in the upper one, and never 21: that
+// nogood closes all three, but it is the last.
+#[test]
+fn the_first_nogood_that_is_implied_closes_a_zone(rt: HostRuntime) -> Result<(), Fail> {
+    let alloc = rt.alloc();
+    let problem = two_rows(alloc)?;
+    let trace = no_cuts(alloc, &problem)?;
+    let mut store = Store::new(alloc, &problem, 0)?;
+    let whole = problem.whole()?;
+    let (lower, upper) = parts(&problem, 2)?;
+    let none = store.closes(&problem, &whole);
+    add_line(alloc, &mut store, &problem, &trace, &[at_least(2, 9)])?;
+    add_line(
+        alloc,
+        &mut store,
+        &problem,
+        &trace,
+        &[at_most(2, 8), at_most(0, 2)],
+    )?;
+    add_line(alloc, &mut store, &problem, &trace, &[at_most(2, 8)])?;
+    add_line(alloc, &mut store, &problem, &trace, &[at_most(2, 20)])?;
+    assert_eq!(rt; none, None);
+    assert_eq!(rt; store.closes(&problem, &upper), Some(0));
+    assert_eq!(rt; store.closes(&problem, &lower), Some(2));
+    assert_eq!(rt; store.closes(&problem, &whole), Some(3));
+    Ok(())
+}
+
+/// The line, shrunk for so many lines of height at the end of the log, where it is good there.
+fn shrunk(
+    alloc: Global,
+    problem: &Problem,
+    trace: &Trace,
+    log: &Log,
+    line: &LogLine,
+    lower: u32,
+) -> Result<LogLine, Fail> {
+    if trace.len() > 3 {
+        return Err("the trace is long".into());
+    }
+    let cuts = trace.len() as u32;
+    let mut checker = Checker::reserve(alloc, problem, cuts)?;
+    if !checker.trace(problem, trace) {
+        return Err("the cuts are no trace".into());
+    }
+    let mut store = Store::new(alloc, problem, cuts)?;
+    if !store.tries(problem, trace, log, line, lower) {
+        return Err("the line is not good".into());
+    }
+    let new = store.shrink(problem, trace, log, line, lower)?;
+    Ok(new)
+}
+
+/// Cuts of the first three columns, each of the lower part of the one before.
+fn three_cuts(alloc: Global) -> Result<Trace, Fail> {
+    let mut trace = List::new(alloc);
+    for (zone, span) in [(0u32, 0u32), (1, 1), (3, 2)] {
+        trace.push(CutAt {
+            zone,
+            span,
+            class: 0,
+        })?;
+    }
+    Ok(trace)
+}
+
+/// The line of a zone.
+fn zone_line(alloc: Global, zone: u32, fires: &[u32], end: End) -> Result<LogLine, Fail> {
+    Ok(LogLine {
+        nogood: Nogood::Zone(zone),
+        fires: List::from_slice(alloc, fires)?,
+        end,
+    })
+}
+
+/// Whether the nogood has these bounds written out, or is zone 0 where there are none.
+fn has_bounds(nogood: &Nogood, bounds: &[Bound]) -> bool {
+    match nogood {
+        Nogood::Zone(number) => *number == 0 && bounds.is_empty(),
+        Nogood::Bounds(written) => written.as_slice() == bounds,
+    }
+}
+
+// A third column of at most 8 needs two lines below two; one of at least 9 leaves the fourth at most 8. The
+// first two columns do not matter, and with both lines nothing does.
+#[test]
+fn bounds_that_do_not_matter_are_taken(rt: HostRuntime) -> Result<(), Fail> {
+    let alloc = rt.alloc();
+    let problem = two_rows(alloc)?;
+    let trace = three_cuts(alloc)?;
+    let mut log: Log = List::new(alloc);
+    let line = zone_line(alloc, 5, &[], End::Chain)?;
+    let lower = shrunk(alloc, &problem, &trace, &log, &line, 4)?;
+    assert!(rt; has_bounds(&lower.nogood, &[at_most(2, 8)]));
+    log.push(lower)?;
+    let line = zone_line(alloc, 6, &[], End::Chain)?;
+    let upper = shrunk(alloc, &problem, &trace, &log, &line, 4)?;
+    assert!(rt; has_bounds(&upper.nogood, &[at_least(2, 9)]));
+    log.push(upper)?;
+    let line = zone_line(alloc, 3, &[0, 1], End::Fired)?;
+    let joined = shrunk(alloc, &problem, &trace, &log, &line, 4)?;
+    assert!(rt; has_bounds(&joined.nogood, &[]));
+    assert_eq!(rt; joined.fires.as_slice(), [0u32, 1].as_slice());
+    Ok(())
+}
+
+// One of ten columns may be wide: nine narrow ones make 19 lines, and eight do not.
+#[test]
+fn more_than_eight_bounds_stay_as_they_were(rt: HostRuntime) -> Result<(), Fail> {
+    let alloc = rt.alloc();
+    let problem = diagonal(alloc, 10, 30)?;
+    let trace = no_cuts(alloc, &problem)?;
+    let log: Log = List::new(alloc);
+    let bounds = [
+        at_most(9, 2),
+        at_most(1, 2),
+        at_most(2, 2),
+        at_most(3, 2),
+        at_most(4, 2),
+        at_most(5, 2),
+        at_most(6, 2),
+        at_most(7, 2),
+        at_most(8, 2),
+        at_most(8, 2),
+    ];
+    let line = chain_line(alloc, &bounds)?;
+    let new = shrunk(alloc, &problem, &trace, &log, &line, 19)?;
+    assert!(rt; has_bounds(&new.nogood, &bounds));
+    let new = shrunk(alloc, &problem, &trace, &log, &line, 12)?;
+    assert!(rt; has_bounds(&new.nogood, &[at_most(8, 2), at_most(9, 2)]));
+    Ok(())
+}
+
+/// So many columns and rows, with a cell where both numbers are the same: one line in 3 columns, two in one.
+fn diagonal(alloc: Global, count: u32, width: u32) -> Result<Problem, Fail>
+    requires { count < 100 }
+{
+    let pair = [config(1, 2), config(3, 1)];
+    let mut cells = List::new(alloc);
+    for number in 0..count {
+        add(alloc, &mut cells, (number, number + 1), number, &pair)?;
+    }
+    problem(alloc, count, count, width, cells)
+}
