@@ -13,25 +13,7 @@ here=$(dirname "$(readlink -f "${BASH_SOURCE[0]}")")
 files=$1
 
 cp "$here/../examples/first.html" "$files/first.html"
-awk 'function draw(k) { s = (s * 16838 % m * 65536 % m + s * 20077 + 12345) % m; return int(s / 65536) % k }
-    BEGIN {
-        s = 0; m = 2147483648
-        printf "<table>"
-        for (row = 0; row < 30; row++) {
-            printf "<tr>"
-            for (x = 0; x < 6; x += span) {
-                span = (draw(5) == 0 && x < 5) ? 2 : 1
-                printf span == 2 ? "<td colspan=2>" : "<td>"
-                words = 1 + draw(6)
-                for (word = 0; word < words; word++) {
-                    letters = 1 + draw(8)
-                    if (word) printf " "
-                    for (i = 0; i < letters; i++) printf "a"
-                }
-            }
-        }
-        printf "</table>"
-    }' >"$files/demo.html"
+"$here/drawn.sh" 0 >"$files/demo.html"
 awk 'BEGIN { printf "<table>"; for (r = 0; r < 2000; r++) { printf "<tr><td>"; for (w = 0; w < 10; w++) printf "word%d ", (r * 7 + w * 13) % 1000 } printf "</table>" }' >"$files/column.html"
 awk 'BEGIN { printf "<table>"; for (r = 0; r < 2000; r++) { printf "<tr>"; for (c = 0; c < 10; c++) printf "<td>cell %d", (r * 31 + c * 17) % 10000 } printf "</table>" }' >"$files/rows.html"
 awk 'BEGIN { printf "<table>"; for (r = 0; r < 333; r++) { printf "<tr>"; for (c = 0; c < 60; c++) printf "<td>%d b", (r + c) % 10 } printf "</table>" }' >"$files/columns.html"
