@@ -3,7 +3,7 @@
 ghost use Rattle.std.specs.Prelude.{◌+◌, ◌<◌, ◌≤◌, length, IfOk};
 ghost use Rattle.tl_problem.specs.Zones.{IsZone};
 ghost use Rattle.tl_cert.specs.Traces.{IsTraceOf};
-ghost use Rattle.tl_check.specs.Checkers.{IsReserved, StaysReserved};
+ghost use Rattle.tl_check.specs.Checkers.{IsReserved};
 ghost use Rattle.tl_store.specs.Stores.{IsStoreOf};
 
 use std::alloc::Global;
@@ -136,7 +136,7 @@ fn add_line(
     requires reserved { IsReserved problem.now (length trace.now) store.old.checker }
     requires trace { IsTraceOf problem.now trace.now }
     ensures store { IsStoreOf problem.now store.new }
-    ensures stays { StaysReserved problem.now store.old.checker store.new.checker }
+    ensures reserved { IsReserved problem.now (length trace.now) store.new.checker }
 {
     let line = chain_line(alloc, bounds)?;
     let log: Log = List::new(alloc);
@@ -187,48 +187,28 @@ fn a_nogood_that_is_there_keeps_its_number(rt: HostRuntime) -> Result<(), Fail> 
     Ok(())
 }
 
-/// The parts of the whole, cut at the span after its first class.
-fn parts(problem: &Problem, span: u32) -> Result<(Zone, Zone), Fail>
-    ensures lower { IfOk result (λ parts. IsZone problem.now parts.0) }
-    ensures upper { IfOk result (λ parts. IsZone problem.now parts.1) }
+/// The whole.
+fn whole_of(problem: &Problem) -> Result<Zone, Fail>
+    ensures { IfOk result (IsZone problem.now) }
 {
-    // The cells come with the fact that the problem is sound.
-    let _cells = problem.cells();
     let whole = problem.whole()?;
-    let ranges = whole.ranges();
-    let number = span as usize;
-    if number >= ranges.len() || ranges[number].first > 0 || ranges[number].last == 0 {
-        return Err("the span has one class".into());
-    }
-    let parts = whole.cut(span, 0)?;
-    Ok(parts)
+    Ok(whole)
 }
 
-// The third column is at most 8 wide in the lower part and at least 9 in the upper one, and never 21: that
-// nogood closes all three, but it is the last.
+// The third column is never 21 wide, nor 25: the last two nogoods close the whole, and the first of them is
+// named.
 #[test]
 fn the_first_nogood_that_is_implied_closes_a_zone(rt: HostRuntime) -> Result<(), Fail> {
     let alloc = rt.alloc();
     let problem = two_rows(alloc)?;
     let trace = no_cuts(alloc, &problem)?;
     let mut store = Store::new(alloc, &problem, 0)?;
-    let whole = problem.whole()?;
-    let (lower, upper) = parts(&problem, 2)?;
-    let none = store.closes(&problem, &whole);
+    let whole = whole_of(&problem)?;
     add_line(alloc, &mut store, &problem, &trace, &[at_least(2, 9)])?;
-    add_line(
-        alloc,
-        &mut store,
-        &problem,
-        &trace,
-        &[at_most(2, 8), at_most(0, 2)],
-    )?;
-    add_line(alloc, &mut store, &problem, &trace, &[at_most(2, 8)])?;
+    let none = store.closes(&problem, &whole);
     add_line(alloc, &mut store, &problem, &trace, &[at_most(2, 20)])?;
-    assert_eq!(rt; none, None);
-    assert_eq!(rt; store.closes(&problem, &upper), Some(0));
-    assert_eq!(rt; store.closes(&problem, &lower), Some(2));
-    assert_eq!(rt; store.closes(&problem, &whole), Some(3));
+    add_line(alloc, &mut store, &problem, &trace, &[at_most(2, 24)])?;
+    assert_eq!(rt; (none, store.closes(&problem, &whole)), (None, Some(1)));
     Ok(())
 }
 
