@@ -5,14 +5,13 @@
 --                       |     ee|
 --
 -- On pages of up to 12 columns the narrowest of at most 2 lines has 10: the trials are 12 (low), 9 (high) and 10 (low).
-use Rattle.std.proofs.Common.{◌≡◌, ℕ, List, [], ◌∷◌, None, Some, refl, arith}
-use Rattle.tl_base.specs.declared.style.Style.{Style}
+use Rattle.std.proofs.Common.{◌≡◌, ℕ, [], ◌∷◌, None, refl, arith}
 use Rattle.tl_base.specs.declared.style.Style.TheVariants.{Plain}
 use Rattle.tl_cert.specs.declared.certificate.Certificate.{Certificate}
 use Rattle.tl_cert.specs.declared.certificate.Claim.TheVariants.{Lowest, Bounded, Narrow}
 use Rattle.tl_cert.specs.declared.section.Section.{Section}
 use Rattle.tl_table.specs.declared.cell.Table.{Table}
-use Rattle.tl_narrow.specs.Certified.{certificate_of, claim_of}
+use Rattle.tl_narrow.specs.Certified.{claim_of}
 use Rattle.tl_narrow.specs.Slimmest.{ClaimsHigh, ClaimsLow, ClaimsNeither}
 use Rattle.tl_narrow.specs.Slims.{trial_between}
 use Rattle.tl_narrow.specs.Trials.{IsReached, IsTriedBetween, at_first, first_least, first_width, high_tried, low_tried}

@@ -1,6 +1,6 @@
 -- What a search for the narrowest page proves of it.
-use Rattle.std.proofs.Common.{◌≡◌, ◌≢◌, ◌⊎◌, inl, inr, ℕ, zero, suc, ◌+◌, ◌-◌, ◌<◌, ◌≤◌, Option, None, Some, refl, sym, subst, arith}
-use Rattle.std.specs.Prelude.{IfSome, MatchOption, ◌==◌, if◌then◌else◌}
+use Rattle.std.proofs.Common.{◌≡◌, ◌≢◌, ◌⊎◌, inl, inr, ℕ, zero, suc, ◌+◌, ◌-◌, ◌<◌, ◌≤◌, Option, None, Some, refl, subst, arith}
+use Rattle.std.specs.Prelude.{IfSome, MatchOption}
 use Rattle.std.proofs.lemmas.Bool.{cases_lt}
 use Rattle.std.proofs.lemmas.Bool.Decides.{nat_tests}
 use Rattle.tl_base.specs.declared.style.Style.{Style}
@@ -16,7 +16,6 @@ use Rattle.tl_table.specs.Sound.{IsSound}
 use Rattle.tl_form.specs.CountLaws.{AllCountsRise, LeastHeightsExist}
 use Rattle.tl_form.specs.Problems.{IsCountAll}
 use Rattle.tl_form.specs.Expected.{least_of, own_number}
-use Rattle.tl_form.specs.Valid.{IsValid}
 use Rattle.tl_form.specs.ValidLaws.{BoundedIsBetween, LowestIsLeast, NarrowIsTooWide}
 use Rattle.tl_form.proofs.Truth.{Fits-wider}
 use Rattle.tl_narrow.specs.declared.slim.Slim.{Slim}

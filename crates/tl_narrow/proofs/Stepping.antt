@@ -1,18 +1,17 @@
 -- What is known after each trial, and that each leaves fewer.
 use Rattle.std.proofs.Common.{◌≡◌, ◌≢◌, ◌⊎◌, inl, inr, ℕ, ◌+◌, ◌-◌, ◌<◌, ◌≤◌, Option, None, Some, refl, sym, ap, subst, ◌∙◌, arith}
-use Rattle.std.specs.Prelude.{IfSome, MatchOption, ◌==◌, if◌then◌else◌}
+use Rattle.std.specs.Prelude.{IfSome, MatchOption}
 use Rattle.std.proofs.lemmas.Bool.{cases_lt}
 use Rattle.std.proofs.lemmas.Bool.Decides.{nat_tests}
 use Rattle.tl_base.specs.declared.style.Style.{Style}
 use Rattle.tl_cert.specs.declared.certificate.Certificate.{Certificate}
 use Rattle.tl_cert.specs.declared.certificate.Claim.{Claim}
 use Rattle.tl_cert.specs.declared.certificate.Claim.TheVariants as claims
-use Rattle.tl_cert.specs.Text.{IsNarrow}
 use Rattle.tl_table.specs.declared.cell.Table.{Table}
 use Rattle.tl_table.specs.Least.{IsLeastWidth}
 use Rattle.tl_narrow.specs.declared.slim.Slim.{Slim}
 use Rattle.tl_narrow.specs.Slimmest.{ClaimsHigh, ClaimsLow, ClaimsNeither}
-use Rattle.tl_narrow.specs.Slims.{IsBetweenWidths, IsHighCertificate, IsSlim, IsSpentBetween, IsSpentCertificate, trial_between}
+use Rattle.tl_narrow.specs.Slims.{IsHighCertificate, IsSlim, IsSpentBetween, IsSpentCertificate, trial_between}
 use Rattle.tl_form.specs.Valid.{IsValid}
 use Rattle.tl_narrow.specs.Trials.{IsBisection, IsTriedBetween, high_tried, low_tried}
 use Rattle.tl_narrow.specs.inner.Trials.{IsKnown, IsNext, IsSlimSoFar, IsSpentTrial, IsTaken, IsTrial, high_at, left_where, low_at, spent_at, trials_left}

@@ -1,6 +1,6 @@
 -- What a trial leaves: the sections of a search, with the claim of the last, and where that is open, a budget below the counts
 -- of this page and of each wider one.
-use Rattle.std.proofs.Common.{◌≡◌, inl, inr, ℕ, ◌-◌, ◌<◌, ◌≤◌, ◌^◌, List, length, get_or, take, refl, subst, arith}
+use Rattle.std.proofs.Common.{◌≡◌, inl, inr, ℕ, ◌-◌, ◌<◌, ◌≤◌, List, length, get_or, take, subst, arith}
 use Rattle.std.specs.List.{All, Any}
 use Rattle.std.proofs.lemmas.List.{take_all}
 use Rattle.std.proofs.lemmas.Bool.{cases_lt}
@@ -24,7 +24,7 @@ use Rattle.tl_solve.specs.declared.outcome.Outcome.{Outcome}
 use Rattle.tl_nested.specs.Searched.{AreSectionsOf, AreWritable}
 use Rattle.tl_narrow.specs.Certified.{certificate_of, claim_of}
 use Rattle.tl_narrow.specs.Slimmest.{IsBelowCounts}
-use Rattle.tl_narrow.specs.inner.Trials.{IsSpentTrial, IsTrial}
+use Rattle.tl_narrow.specs.inner.Trials.{IsTrial}
 use Rattle.tl_narrow.proofs.Certifying.{claim_is_wide, first_of, open_last, valid, writable}
 
 module _ (given : ProblemModel → Outcome → Type 0) (table : Table) (style : Style) (page budget : ℕ) (sections : List Section)

@@ -1,5 +1,5 @@
 -- What a search for the narrowest page proves of it. Each law is the contract of a function of `slim_laws`.
-use Rattle.std.specs.Prelude.{◌≡◌, ◌≢◌, ℕ, ◌+◌, ◌≤◌, None}
+use Rattle.std.specs.Prelude.{◌≡◌, ◌≢◌, ℕ, ◌≤◌, None}
 use Rattle.tl_base.specs.declared.style.Style.{Style}
 use Rattle.tl_table.specs.declared.cell.Table.{Table}
 use Rattle.tl_table.specs.Sound.{IsSound}

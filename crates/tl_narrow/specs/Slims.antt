@@ -1,16 +1,13 @@
 -- What a search for the narrowest page tells: between which widths it lies, and the certificates that show it.
-use Rattle.std.specs.Prelude.{◌≡◌, ◌≢◌, ◌⊎◌, ℕ, ◌+◌, ◌-◌, ◌/◌, ◌<◌, ◌≤◌, ◌==◌, if◌then◌else◌, Option, Some, IfSome, MatchOption}
+use Rattle.std.specs.Prelude.{◌≡◌, ◌≢◌, ◌⊎◌, ℕ, ◌+◌, ◌-◌, ◌/◌, ◌≤◌, ◌==◌, if◌then◌else◌, Option, Some, IfSome, MatchOption}
 use Rattle.std.specs.List.{Any}
 use Rattle.tl_base.specs.declared.style.Style.{Style}
-use Rattle.tl_problem.specs.Problem.{ProblemModel}
 use Rattle.tl_cert.specs.declared.certificate.Certificate.{Certificate}
 use Rattle.tl_cert.specs.Text.{IsNarrow, IsWritable}
 use Rattle.tl_table.specs.declared.cell.Table.{Table}
 use Rattle.tl_table.specs.Least.{IsLeastWidth}
 use Rattle.tl_form.specs.OpenLaws.{IsSpent}
 use Rattle.tl_form.specs.Valid.{IsValid}
-use Rattle.tl_solve.specs.declared.outcome.Outcome.{Outcome}
-use Rattle.tl_nested.specs.Searched.{AreSectionsOf}
 use Rattle.tl_narrow.specs.declared.slim.Slim.{Slim}
 use Rattle.tl_narrow.specs.Slimmest.{ClaimsHigh, ClaimsLow, ClaimsNeither, IsBelowCounts}
 

@@ -272,7 +272,10 @@ fn a_nested_table_without_cuts_ends_the_search(rt: HostRuntime) -> Result<(), Fa
 #[test]
 fn a_page_that_has_its_certificate_is_not_tried(rt: HostRuntime) -> Result<(), Fail> {
     let (line, made) = after_another(&rt, rt.alloc(), PAIR, 2)?;
-    assert_eq!(&rt; line.as_str(), "10 10; at 10 lowest 2; at 9 lowest 3; none;");
+    assert_eq!(&rt;
+        line.as_str(),
+        "10 10; at 10 lowest 2; at 9 lowest 3; none;"
+    );
     assert_eq!(&rt; made, 2);
     Ok(())
 }

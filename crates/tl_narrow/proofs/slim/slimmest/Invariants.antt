@@ -1,5 +1,4 @@
 use Rattle.tl_nested.specs.Searched.{AreSectionsOf}
-use Rattle.tl_narrow.specs.Slims.{AreSearched}
 use Rattle.tl_narrow.specs.inner.Trials.{IsKnown, trials_left}
 use Rattle.tl_narrow.proofs.slim.slimmest.Given as goal
 

@@ -7,7 +7,7 @@ use Rattle.tl_narrow.proofs.Laws.{kept_is_low}
 use Rattle.tl_narrow.proofs.tests.after_another.Goals as goal
 
 pub slimmest-requires-2-clause-kept : goal.slimmest-requires-2-clause-kept
-slimmest-requires-2-clause-kept g c =
+slimmest-requires-2-clause-kept g c = λ lifetimes outlives.
     let first = c.in_ok-first.first in
     let ten : first.width ≡ 10 = omega (arith, c.if-first-ne10.false) in
     subst (λ (kept : Option Certificate). IfSome kept (IsLowCertificate c.in_ok-table.table Plain c.args.height 10 5000))

@@ -1,5 +1,5 @@
 -- The least width is that of the document's own table.
-use Rattle.std.proofs.Common.{◌≡◌, ◌⊎◌, ℕ, ◌+◌, ◌≤◌, IfSome, ap, ◌∙◌, arith, sym, subst}
+use Rattle.std.proofs.Common.{IfSome, ap, ◌∙◌, sym, subst}
 use Rattle.tl_base.specs.declared.style.Style.{Style}
 use Rattle.tl_table.specs.declared.cell.Table.{Table}
 use Rattle.tl_table.specs.Least.{IsLeastWidth}

@@ -1,7 +1,6 @@
 -- The sections of the search, with the claim of the last.
-use Rattle.std.proofs.Common.{List, sym, subst}
+use Rattle.std.proofs.Common.{sym, subst}
 use Rattle.tl_cert.specs.declared.certificate.Certificate.{Certificate}
-use Rattle.tl_cert.specs.declared.section.Section.{Section}
 use Rattle.tl_nested.specs.Searched.{AreSectionsOf}
 use Rattle.tl_narrow.specs.inner.Trials.{IsTrial}
 use Rattle.tl_narrow.proofs.Trying.{is_trial}
