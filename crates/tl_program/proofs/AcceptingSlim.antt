@@ -10,7 +10,6 @@ use Rattle.tl_base.specs.declared.limits.TheConstants.{MAX_PAGE_WIDTH, MAX_REACH
 use Rattle.tl_base.specs.Desk.{Files}
 use Rattle.tl_cert.specs.declared.certificate.Certificate.{Certificate}
 use Rattle.tl_cert.specs.Faults.{IsTextOf}
-use Rattle.tl_cert.specs.Text.{cert_text}
 use Rattle.tl_cert.proofs.OneText.{one_certificate}
 use Rattle.tl_command.specs.declared.command.Command.TheVariants.{Narrow, Check}
 use Rattle.tl_command.specs.Ask.{Asked}
@@ -33,7 +32,6 @@ use Rattle.tl_program.specs.Messages.{status_number}
 use Rattle.tl_program.specs.Narrowest.{AcceptsSlim, AsksForStored, Delivers}
 use Rattle.tl_program.specs.Slimmed.{IsReadBackAt, IsSlimIn, IsSlimmed, files_of, is_named_at, text_at}
 use Rattle.tl_program.specs.Tasks.{slim_task, task_of}
-use Rattle.tl_program.proofs.Asking.{names_asked}
 use Rattle.tl_program.proofs.Checked.{accepted_so}
 use Rattle.tl_program.proofs.InputRuns.{InputRun, input_run}
 use Rattle.tl_program.proofs.NamedFiles.{HasOtherNames, StandsAt, first_apart, holds_through, named_otherwise, stands_at, text_there}

@@ -1,5 +1,5 @@
 -- What a run on a file went by that ended by its command's own part: the table of its file, and what was delivered.
-use Rattle.std.proofs.Common.{◌≡◌, ◌≢◌, inl, inr, ℕ, ◌≤◌, List, sym, ap, ◌∙◌}
+use Rattle.std.proofs.Common.{◌≡◌, ◌≢◌, inl, inr, ℕ, ◌≤◌, List, ap, ◌∙◌}
 use Rattle.tl_base.specs.declared.limits.TheConstants.{MAX_REACH}
 use Rattle.tl_base.specs.Desk.{longer}
 use Rattle.tl_command.specs.declared.command.Command.{Command}
@@ -18,7 +18,7 @@ use Rattle.tl_program.specs.Change.{Change, Holds, with_all}
 use Rattle.tl_program.specs.Deliveries.{Delivery, reported, ComesOfInput}
 use Rattle.tl_program.specs.Headline.{IsCarriedOut, Ends}
 use Rattle.tl_program.specs.Inputs.{IsOfReading}
-use Rattle.tl_program.specs.Messages.{status_number, status_of, refusal_status, message_of}
+use Rattle.tl_program.specs.Messages.{status_number, status_of, message_of}
 use Rattle.tl_program.specs.Tasks.{task_of}
 use Rattle.tl_program.proofs.Asking.{carried_as}
 

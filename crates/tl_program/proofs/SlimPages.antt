@@ -1,5 +1,5 @@
 -- What the search that is named tells of the narrowest page, and the page of a certificate that claims so few lines.
-use Rattle.std.proofs.Common.{◌≡◌, ℕ, ◌≤◌, List, None, refl, subst, sym, ◌∙◌, arith}
+use Rattle.std.proofs.Common.{◌≡◌, ℕ, ◌≤◌, List, None, refl, subst, sym, ◌∙◌}
 use Rattle.std.specs.Prelude.{IfOk, Result, Ok, Err}
 use Rattle.std.specs.declared.alloc.AllocError.{AllocError}
 use Rattle.tl_base.specs.declared.limits.TheConstants.{MAX_PAGE_WIDTH}

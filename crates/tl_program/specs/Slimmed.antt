@@ -1,6 +1,6 @@
 -- What `narrow` comes to: the page of the narrowest layout that was found, with its certificate, and the certificates that show
 -- that no narrower page holds the table in so few lines, or with which the search ended early.
-use Rattle.std.specs.Prelude.{◌≡◌, ℕ, zero, suc, ◌<◌, ◌≤◌, ◌==◌, nat_le, if◌then◌else◌, Bool, List, [], ◌∷◌, Option, Some, None, is_some}
+use Rattle.std.specs.Prelude.{◌≡◌, ℕ, zero, suc, ◌≤◌, ◌==◌, nat_le, if◌then◌else◌, Bool, List, [], ◌∷◌, Option, Some, None, is_some}
 use Rattle.std.specs.List.{slice_get}
 use Rattle.tl_base.specs.declared.limits.TheConstants.{MAX_PAGE_WIDTH}
 use Rattle.tl_cert.specs.declared.certificate.Certificate.{Certificate}

@@ -21,12 +21,10 @@ use std::alloc::{AllocError, Global};
 use std::thread::Threads;
 use tl_base::{Gate, List, MAX_CERTIFICATE_BYTES};
 use tl_cert::{Certificate, write};
-use tl_form::{
-    Subject, bounded_is_between, budget_closes, layout, lowest_is_least, open_spends,
-};
+use tl_form::{Subject, bounded_is_between, budget_closes, layout, lowest_is_least, open_spends};
 use tl_html::html;
-use tl_page::page;
 use tl_narrow::{certificate_of, narrow_certificate};
+use tl_page::page;
 use tl_table::{Layout, Table};
 
 /// What is reported of a table, and what is stored for it.

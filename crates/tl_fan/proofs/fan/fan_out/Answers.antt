@@ -1,4 +1,4 @@
-use Rattle.std.proofs.Common.{◌∙◌, ◌+◌, ◌≤◌, length, subst, sym, take, arith}
+use Rattle.std.proofs.Common.{◌+◌, ◌≤◌, length, subst, sym, take, arith}
 use Rattle.std.specs.List.{AllZip}
 use Rattle.tl_fan.proofs.Pieces.{group_more}
 use Rattle.tl_fan.proofs.fan.fan_out.Goals as goal

@@ -1,5 +1,5 @@
 -- Each place adds its file.
-use Rattle.std.proofs.Common.{◌≡◌, ◌∙◌, inl, inr, ◌+◌, ◌≤◌, ◌<◌, List, [], length, get_or, map, min, string_bytes, sym, ap, arith, None, Some}
+use Rattle.std.proofs.Common.{◌∙◌, inl, inr, ◌+◌, ◌<◌, [], length, map, string_bytes, sym, ap, arith, None}
 use Rattle.std.proofs.lemmas.Bool.{cases_lt}
 use Rattle.std.proofs.lemmas.List.{get_or-map, get_or_default, length-map}
 use Rattle.tl_program.specs.Change.{as_stored}
