@@ -13,7 +13,7 @@ use tl_base::{Gate, NoGate};
 /// How often a piece looks for another one's flag.
 const TURNS: u32 = 100_000_000;
 
-/// A gate at which the pieces 0 and 1 meet: each sets its flag, and looks for the other's.
+/// A gate at which the pieces 0 and 1 meet: each sets its flag, and looks for the other's. All others pass.
 #[derive(Drop)]
 struct Meeting {
     flags: [AtomicBool; 2],
@@ -22,6 +22,9 @@ struct Meeting {
 
 impl Gate for Meeting {
     fn pass(&self, piece: u32) {
+        if piece > 1 {
+            return;
+        }
         let own = (piece % 2) as usize;
         self.flags[own].store(true, Ordering::SeqCst);
         for _ in 0..TURNS {
@@ -88,18 +91,30 @@ fn results_come_in_the_order_of_the_numbers(rt: HostRuntime) -> Result<(), Fail>
     tenfold(rt, alloc, 2, &[], &[])
 }
 
-#[test]
-fn two_pieces_of_a_group_are_at_work_at_one_time(rt: HostRuntime) -> Result<(), Fail> {
+/// So many pieces by two workers, where the pieces 0 and 1 see each other at work.
+fn meet_at_work(rt: &(impl Abort + Threads + Sync), alloc: Global, count: u32) -> Result<(), Fail> {
     let gate = Meeting {
         flags: [AtomicBool::new(false), AtomicBool::new(false)],
         seen: [AtomicBool::new(false), AtomicBool::new(false)],
     };
     let piece = |number: u32| -> u32 { number };
-    let found = fan_out(&rt, rt.alloc(), &gate, 2, &[0, 1], &piece)?;
-    assert_eq!(&rt; found.as_slice(), [0, 1].as_slice());
-    assert!(&rt; gate.seen[0].load(Ordering::SeqCst));
-    assert!(&rt; gate.seen[1].load(Ordering::SeqCst));
+    let numbers = places(alloc, count)?;
+    let found = fan_out(rt, alloc, &gate, 2, numbers.as_slice(), &piece)?;
+    assert_eq!(rt; found.as_slice(), numbers.as_slice());
+    assert!(rt; gate.seen[0].load(Ordering::SeqCst));
+    assert!(rt; gate.seen[1].load(Ordering::SeqCst));
     Ok(())
+}
+
+#[test]
+fn two_pieces_of_a_group_are_at_work_at_one_time(rt: HostRuntime) -> Result<(), Fail> {
+    meet_at_work(&rt, rt.alloc(), 2)
+}
+
+#[test]
+fn of_many_pieces_neighbours_are_in_different_threads(rt: HostRuntime) -> Result<(), Fail> {
+    meet_at_work(&rt, rt.alloc(), 16)?;
+    meet_at_work(&rt, rt.alloc(), 201)
 }
 
 #[test]

@@ -1,4 +1,4 @@
-use Rattle.std.proofs.Common.{◌≡◌, ◌∙◌, ◌*◌, ◌≤◌, ◌++◌, [], ◌∷◌, length, sym, ap, subst}
+use Rattle.std.proofs.Common.{◌≡◌, ◌∙◌, ◌*◌, ◌≤◌, ◌++◌, get_or, [], ◌∷◌, length, sym, ap, subst}
 use Rattle.std.specs.List.{AllZip}
 use Rattle.std.proofs.lemmas.Grind.{div_ceil_times}
 use Rattle.std.proofs.lemmas.List.{map-id}
@@ -24,14 +24,14 @@ returns g c =
     let end = YieldsList-end road c.loop-run.yielded c.loop-run.run-iterator c.loop-run.yielded_by
     c.next.result c.next.new.self c.in-None.is c.next.ensures.steps in
     let all : runs.items ≡ c.loop-run.yielded = sym end.0 ∙ map-id c.loop-run.yielded in
-    let enough : length c.args.numbers.now ≤ length runs.items * c.args.each =
-    subst (λ n. length c.args.numbers.now ≤ n * c.args.each) (sym (sym runs.ok.0 ∙ c.in_ok-runs.ensures.len))
-    (div_ceil_times (length c.args.numbers.now) c.args.each c.requires.each).0 in
-    subst (AllZip (λ number one. g.F.Fn.post c.args.piece.now (number, tt) one) c.args.numbers.now)
+    let enough : length c.args.places.now ≤ length runs.items * c.args.each =
+    subst (λ n. length c.args.places.now ≤ n * c.args.each) (sym (sym runs.ok.0 ∙ c.in_ok-runs.ensures.len))
+    (div_ceil_times (length c.args.places.now) c.args.each c.requires.each).0 in
+    subst (AllZip (λ place gave. (gave.place ≡ place) × g.F.Fn.post c.args.piece.now (get_or c.args.numbers.now place 0, tt) gave.one) c.args.places.now)
     (sym (c.loop-run.invariant.0 ∙ ap joined (sym all)))
-    (by_runs (λ number one. g.F.Fn.post c.args.piece.now (number, tt) one) c.args.each c.args.numbers.now runs.items enough
+    (by_runs (λ place gave. (gave.place ≡ place) × g.F.Fn.post c.args.piece.now (get_or c.args.numbers.now place 0, tt) gave.one) c.args.each c.args.places.now runs.items enough
     (subst AllAreOk (sym all) c.loop-run.invariant.1)
     (λ n d within.
     let chunk = (c.in_ok-runs.ensures.each n d within).1 in
-    run_of (λ number one. g.F.Fn.post c.args.piece.now (number, tt) one) chunk.argument.now _ _ chunk.argument_is.value
+    run_of (λ place gave. (gave.place ≡ place) × g.F.Fn.post c.args.piece.now (get_or c.args.numbers.now place 0, tt) gave.one) chunk.argument.now _ _ chunk.argument_is.value
     chunk.call))

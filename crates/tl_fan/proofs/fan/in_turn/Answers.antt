@@ -1,8 +1,9 @@
+use Rattle.std.proofs.Common.{◌≡◌, get_or, refl}
 use Rattle.tl_fan.proofs.Pieces.{piece_more}
 use Rattle.tl_fan.proofs.fan.in_turn.Goals as goal
 
-pub loop-number-preserved : goal.loop-number-preserved
-loop-number-preserved g c =
-    piece_more (λ number one. g.F.Fn.post c.args.piece.now (number, tt) one) c.args.numbers.now c.loop-number.number-index
-    c.loop-number.found.items c.push.new.self.items c.piece.result c.loop-number-test.true c.loop-number.invariant
-    c.in_ok-push.ensures.items c.piece.ensures
+pub loop-place-preserved : goal.loop-place-preserved
+loop-place-preserved g c =
+    piece_more (λ place gave. (gave.place ≡ place) × g.F.Fn.post c.args.piece.now (get_or c.args.numbers.now place 0, tt) gave.one)
+    c.args.places.now c.loop-place.place-index c.loop-place.found.items c.push.new.self.items _ c.loop-place-test.true
+    c.loop-place.invariant c.in_ok-push.ensures.items (refl, c.piece-one.ensures)

@@ -1,6 +1,7 @@
-use Rattle.std.proofs.Common.{take}
+use Rattle.std.proofs.Common.{◌≡◌, get_or, take}
 use Rattle.std.specs.List.{AllZip}
 use Rattle.tl_fan.proofs.fan.in_turn.Given as goal
 
-abbrev pub invariant-loop-number : goal.invariant-loop-number
-invariant-loop-number g l = AllZip (λ number one. g.F.Fn.post l.piece (number, tt) one) (take l.number-index l.numbers) l.found.items
+abbrev pub invariant-loop-place : goal.invariant-loop-place
+invariant-loop-place g l = AllZip (λ place gave. (gave.place ≡ place) × g.F.Fn.post l.piece (get_or l.numbers place 0, tt) gave.one)
+    (take l.place-index l.places) l.found.items
