@@ -16,8 +16,9 @@ from pathlib import Path
 
 TOP = Path(__file__).resolve().parent.parent
 USE = re.compile(r"use Rattle\.(\w+)\.specs\.([\w.]+?)(?:\.\{([^}]*)\}| as (\S+))?$", re.M)
-HEAD = re.compile(r"^(?:(?:abbrev|unfoldable) pub|pub (?:record|data)|abbrev|unfoldable|record|data) ([^\s:({]+)", re.M)
-CASE = re.compile(r"^  (?:pub )?(\S+) :(?= )", re.M)
+# A definition stands at the margin, or in a module with parameters.
+HEAD = re.compile(r"^(?:  )?(?:(?:abbrev|unfoldable) pub|pub (?:record|data)|abbrev|unfoldable|record|data) ([^\s:({]+)", re.M)
+CASE = re.compile(r"^ {2,4}(?:pub )?(\S+) :(?= )", re.M)
 NAME = re.compile(r"[^\W\d][\w'-]*(?:\.[^\W\d][\w'-]*)*")
 
 
