@@ -4,8 +4,8 @@
 # Prints the options of a command.
 _tablelayout_options() {
     case $1 in
-    show | lay | narrow | preview | check) echo --style --break --budget --workers --csv --head --least ;;&
-    show | lay | narrow | preview) echo --solver --html ;;&
+    show | lay | narrow | tidy | preview | check) echo --style --break --budget --workers --csv --head --least ;;&
+    show | lay | narrow | tidy | preview) echo --solver --html ;;&
     show) echo --width --quiet ;;
     esac
 }
@@ -23,7 +23,7 @@ _tablelayout() {
     local current=${COMP_WORDS[COMP_CWORD]} words option
     COMPREPLY=()
     if [ "$COMP_CWORD" -eq 1 ]; then
-        words='show lay narrow check demo preview install uninstall help'
+        words='show lay narrow tidy check demo preview install uninstall help'
     elif [[ $current == -* ]]; then
         # An option stands at most once.
         for option in $(_tablelayout_options "${COMP_WORDS[1]}"); do

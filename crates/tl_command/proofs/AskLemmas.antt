@@ -5,7 +5,7 @@ use Rattle.std.specs.List.{flat_map}
 use Rattle.std.proofs.lemmas.Fmt.{decimal_injective}
 use Rattle.std.proofs.lemmas.List.Concat.{flat_map-cons}
 use Rattle.tl_command.specs.declared.command.Command.{Command}
-use Rattle.tl_command.specs.declared.command.Command.TheVariants.{Lay, Narrow, Check, Demo}
+use Rattle.tl_command.specs.declared.command.Command.TheVariants.{Lay, Narrow, Tidy, Check, Demo}
 use Rattle.tl_command.specs.declared.options.Choice.{Choice}
 use Rattle.tl_command.specs.declared.options.Choice.TheVariants as choices
 use Rattle.tl_command.specs.declared.options.Options.{Options}
@@ -21,6 +21,7 @@ use Rattle.tl_command.proofs.WordLemmas.{first_same, rest_same}
 pub command_once : (one other : Command) → word_of_command one ≡ word_of_command other → one ≡ other
 command_once Lay Lay e = refl
 command_once Narrow Narrow e = refl
+command_once Tidy Tidy e = refl
 command_once Check Check e = refl
 command_once Demo Demo e = refl
 command_once one other e = absurd (omega (arith, ap (λ (word : List ℕ). get_or word 0 0) e))
@@ -29,6 +30,7 @@ command_once one other e = absurd (omega (arith, ap (λ (word : List ℕ). get_o
 pub number_small : (command : Command) (number : ℕ) → IsNumberOf command number → number < 2 ^ 64
 number_small Lay number is = omega (arith, is.most)
 number_small Narrow number is = omega (arith, is.most)
+number_small Tidy number is = omega (arith, is.most)
 number_small Check number is = omega (arith, is.most)
 number_small Demo number is = omega (arith, is.most)
 

@@ -4,7 +4,7 @@ use Rattle.std.specs.List.{All}
 use Rattle.std.proofs.lemmas.List.{drop-map, take-map, drop-take, drop-drop, take-append-drop, map-append}
 use Rattle.std.proofs.lemmas.List.{length-map, length-take-le, length-drop}
 use Rattle.tl_command.specs.declared.command.Command.{Command}
-use Rattle.tl_command.specs.declared.command.Command.TheVariants.{Lay, Narrow, Check, Demo}
+use Rattle.tl_command.specs.declared.command.Command.TheVariants.{Lay, Narrow, Tidy, Check, Demo}
 use Rattle.tl_command.specs.Ask.{IsNoOption}
 use Rattle.tl_command.specs.Command.{fewest_names, most_names}
 use Rattle.tl_command.specs.inner.Parts.{IsDashedAtFirst, IsSplit}
@@ -13,6 +13,7 @@ use Rattle.tl_command.specs.inner.Parts.{IsDashedAtFirst, IsSplit}
 pub in_order : (command : Command) → fewest_names command ≤ most_names command
 in_order Lay = omega arith
 in_order Narrow = omega arith
+in_order Tidy = omega arith
 in_order Check = omega arith
 in_order Demo = omega arith
 

@@ -1,9 +1,9 @@
 -- The commands, a table for each question: `lay WIDTH IN PAGE [CERT]`, `narrow HEIGHT IN PAGE [CERT [LESS [SPENT]]]`,
--- `check WIDTH IN CERT` and `demo NUMBER`.
+-- `tidy WIDTH IN PAGE [CERT [LESS [SPENT]]]`, `check WIDTH IN CERT` and `demo NUMBER`.
 use Rattle.std.specs.Prelude.{ℕ, ◌≤◌, ◌-◌, ◌^◌, Bool, true, false, List, codes}
 use Rattle.tl_base.specs.declared.limits.TheConstants.{MAX_HEIGHT, MAX_PAGE_WIDTH}
 use Rattle.tl_command.specs.declared.command.Command.{Command}
-use Rattle.tl_command.specs.declared.command.Command.TheVariants.{Lay, Narrow, Check, Demo}
+use Rattle.tl_command.specs.declared.command.Command.TheVariants.{Lay, Narrow, Tidy, Check, Demo}
 use Rattle.tl_command.specs.declared.options.Choice.{Choice}
 use Rattle.tl_command.specs.declared.options.Choice.TheVariants as choices
 
@@ -11,6 +11,7 @@ use Rattle.tl_command.specs.declared.options.Choice.TheVariants as choices
 abbrev pub word_of_command : Command → List ℕ
 word_of_command Lay = codes "lay"
 word_of_command Narrow = codes "narrow"
+word_of_command Tidy = codes "tidy"
 word_of_command Check = codes "check"
 word_of_command Demo = codes "demo"
 
@@ -18,6 +19,7 @@ word_of_command Demo = codes "demo"
 abbrev pub least_number : Command → ℕ
 least_number Lay = 1
 least_number Narrow = 0
+least_number Tidy = 1
 least_number Check = 1
 least_number Demo = 0
 
@@ -25,6 +27,7 @@ least_number Demo = 0
 abbrev pub most_number : Command → ℕ
 most_number Lay = MAX_PAGE_WIDTH
 most_number Narrow = MAX_HEIGHT
+most_number Tidy = MAX_PAGE_WIDTH
 most_number Check = MAX_PAGE_WIDTH
 most_number Demo = 2 ^ 32 - 1
 
@@ -37,6 +40,7 @@ pub record IsNumberOf (command : Command) (number : ℕ) : Type 0 where
 abbrev pub fewest_names : Command → ℕ
 fewest_names Lay = 2
 fewest_names Narrow = 2
+fewest_names Tidy = 2
 fewest_names Check = 2
 fewest_names Demo = 0
 
@@ -44,6 +48,7 @@ fewest_names Demo = 0
 abbrev pub most_names : Command → ℕ
 most_names Lay = 3
 most_names Narrow = 5
+most_names Tidy = 5
 most_names Check = 2
 most_names Demo = 0
 
@@ -56,6 +61,7 @@ pub record IsCountOf (command : Command) (count : ℕ) : Type 0 where
 abbrev pub takes : Command → Choice → Bool
 takes Lay choice = true
 takes Narrow choice = true
+takes Tidy choice = true
 takes Check (choices.Style style) = true
 takes Check (choices.Breaking breaking) = true
 takes Check (choices.Budget budget) = true

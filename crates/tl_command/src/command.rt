@@ -12,6 +12,9 @@ pub enum Command {
     /// `narrow HEIGHT IN PAGE [CERT [LESS [SPENT]]]`: lays the table of a file out in at most so many
     /// lines, on the narrowest page.
     Narrow,
+    /// `tidy WIDTH IN PAGE [CERT [LESS [SPENT]]]`: lays the table of a file out as low as any layout, on
+    /// the narrowest page, the same whatever search is named.
+    Tidy,
     /// `check WIDTH IN CERT`: checks a certificate.
     Check,
     /// `demo NUMBER`: lays out a table that is made from a number.
@@ -31,6 +34,7 @@ impl Command {
         match word {
             "lay" => Some(Command::Lay),
             "narrow" => Some(Command::Narrow),
+            "tidy" => Some(Command::Tidy),
             "check" => Some(Command::Check),
             "demo" => Some(Command::Demo),
             _ => None,
@@ -41,7 +45,7 @@ impl Command {
         ensures { result ≡ least_number self }
     {
         match self {
-            Command::Lay | Command::Check => 1,
+            Command::Lay | Command::Tidy | Command::Check => 1,
             Command::Narrow | Command::Demo => 0,
         }
     }
@@ -50,7 +54,7 @@ impl Command {
         ensures { result ≡ most_number self }
     {
         match self {
-            Command::Lay | Command::Check => MAX_PAGE_WIDTH,
+            Command::Lay | Command::Tidy | Command::Check => MAX_PAGE_WIDTH,
             Command::Narrow => MAX_HEIGHT,
             Command::Demo => u32::MAX,
         }
@@ -69,7 +73,7 @@ impl Command {
         ensures { result ≡ fewest_names self }
     {
         match self {
-            Command::Lay | Command::Narrow | Command::Check => 2,
+            Command::Lay | Command::Narrow | Command::Tidy | Command::Check => 2,
             Command::Demo => 0,
         }
     }
@@ -79,7 +83,7 @@ impl Command {
     {
         match self {
             Command::Lay => 3,
-            Command::Narrow => 5,
+            Command::Narrow | Command::Tidy => 5,
             Command::Check => 2,
             Command::Demo => 0,
         }
@@ -90,7 +94,7 @@ impl Command {
         ensures { result ≡ takes self choice.now }
     {
         match self {
-            Command::Lay | Command::Narrow => true,
+            Command::Lay | Command::Narrow | Command::Tidy => true,
             Command::Check => match choice {
                 Choice::Style(_) | Choice::Breaking(_) | Choice::Budget(_) => true,
                 Choice::Csv | Choice::Head | Choice::Least(_) | Choice::Workers(_) => true,

@@ -17,7 +17,7 @@ use Rattle.tl_table.specs.declared.cell.Table.{Table}
 use Rattle.tl_table.specs.Sound.{nested_in_table}
 use Rattle.tl_form.specs.Valid.{IsValid}
 use Rattle.tl_narrow.specs.declared.slim.Slim.{Slim}
-use Rattle.tl_narrow.specs.Slims.{IsKept, IsLess, IsSpentBetween, trial_between}
+use Rattle.tl_narrow.specs.Slims.{IsKept, IsLess, IsSlim, IsSpentBetween, trial_between}
 use Rattle.tl_read.specs.declared.reading.Reading.TheVariants as readings
 use Rattle.tl_read.specs.Reading.{IsReading}
 use Rattle.tl_program.specs.declared.task.Task.{Task}
@@ -30,7 +30,7 @@ use Rattle.tl_program.specs.Deliveries.{Delivery}
 use Rattle.tl_program.specs.Headline.{Ends}
 use Rattle.tl_program.specs.Messages.{status_number}
 use Rattle.tl_program.specs.Narrowest.{AcceptsSlim, AsksForStored, Delivers}
-use Rattle.tl_program.specs.Slimmed.{IsReadBackAt, IsSlimIn, IsSlimmed, files_of, is_named_at, text_at}
+use Rattle.tl_program.specs.Slimmed.{AreSlimTexts, IsReadBackAt, IsSlimmed, files_of, is_named_at, text_at}
 use Rattle.tl_program.specs.Tasks.{slim_task, task_of}
 use Rattle.tl_program.proofs.Checked.{accepted_so}
 use Rattle.tl_program.proofs.InputRuns.{InputRun, input_run}
@@ -47,29 +47,38 @@ record IsValidSomewhere (task : Task) (table : Table) (certificate : Certificate
   valid : IsValid table task.style page (budget_in task table) certificate
 
 -- so is each that a search for the narrowest page tells
-module _ (task : Task) (table : Table) (height : ℕ) (slim : Slim) (is : IsSlimIn task table height slim) where
+module _ (task : Task) (narrow : task.width ≤ MAX_PAGE_WIDTH) (table : Table) (height : ℕ) (slim : Slim)
+    (tells : IsSlim table task.style height task.width (budget_in task table) slim) where
   kept_valid : (kept : Option Certificate) (certificate : Certificate) →
-      MatchOption kept (slim.width ≡ 0) (IsKept table task.style height MAX_PAGE_WIDTH
+      MatchOption kept (slim.width ≡ 0) (IsKept table task.style height task.width
       (budget_in task table) slim.width) → kept ≡ Some certificate → IsValidSomewhere task table certificate
   kept_valid None certificate told same = absurd cc
-  kept_valid (Some found) certificate told same = subst (IsValidSomewhere task table) (same_Some _ _ same)
-      (record { page = slim.width; within = is.tells.between.width_within; valid = told.shown.valid })
+  kept_valid (Some found) certificate told same = subst (IsValidSomewhere task table) (same_Some _ _ same) (record {
+    page = slim.width;
+    within = let most = tells.between.width_within in omega (arith, most, narrow);
+    valid = told.shown.valid;
+  })
 
   less_valid : (less : Option Certificate) (certificate : Certificate) →
-      MatchOption less (slim.least ≡ 1) (IsLess table task.style height MAX_PAGE_WIDTH
+      MatchOption less (slim.least ≡ 1) (IsLess table task.style height task.width
       (budget_in task table) slim.least) → less ≡ Some certificate → IsValidSomewhere task table certificate
   less_valid None certificate told same = absurd cc
-  less_valid (Some found) certificate told same = subst (IsValidSomewhere task table) (same_Some _ _ same)
-      (record { page = slim.least - 1; within = let most = is.tells.between.least_within in omega (arith, most); valid = told.shown.valid })
+  less_valid (Some found) certificate told same = subst (IsValidSomewhere task table) (same_Some _ _ same) (record {
+    page = slim.least - 1;
+    within = let most = tells.between.least_within in omega (arith, most, narrow);
+    valid = told.shown.valid;
+  })
 
   spent_valid : (spent : Option Certificate) (certificate : Certificate) →
-      MatchOption spent ((slim.width ≡ slim.least) ⊎ (slim.least ≡ MAX_PAGE_WIDTH + 1)) (IsSpentBetween
-      table task.style height MAX_PAGE_WIDTH (budget_in task table) slim.least slim.width) → spent ≡ Some certificate →
+      MatchOption spent ((slim.width ≡ slim.least) ⊎ (slim.least ≡ task.width + 1)) (IsSpentBetween
+      table task.style height task.width (budget_in task table) slim.least slim.width) → spent ≡ Some certificate →
       IsValidSomewhere task table certificate
   spent_valid None certificate told same = absurd cc
   spent_valid (Some found) certificate told same = subst (IsValidSomewhere task table) (same_Some _ _ same) (record {
-    page = trial_between MAX_PAGE_WIDTH slim.least slim.width;
-    within = last_within slim is.tells.between.width_within is.tells.between.ordered;
+    page = trial_between task.width slim.least slim.width;
+    within =
+        let last = last_within task.width slim tells.between.width_within tells.between.ordered in
+        omega (arith, last, narrow);
     valid = told.shown.valid;
   })
 
@@ -85,15 +94,13 @@ written_at asked place (Some certificate) text readable is = by_name (is_named_a
   by_name false readable is = absurd cc
 
 -- a certificate at a place behind the page's is one of the three
-stored_valid : (asked : Asked) (table : Table) (delivery : Delivery) (own : IsSlimmed asked table delivery) (place : ℕ)
-    (text : List ℕ) (certificate : Certificate) → 2 ≤ place → slice_get own.texts place ≡ Some (Some text) →
-    IsTextOf text certificate → IsValidSomewhere (slim_task asked) table certificate
-stored_valid asked table delivery own place text certificate behind is text_is =
-    by_place place behind (subst (λ (texts : List (Option (List ℕ))). slice_get texts place ≡ Some (Some text)) own.are_texts.all is)
+stored_valid : (asked : Asked) (task : Task) → task.width ≤ MAX_PAGE_WIDTH → (table : Table) (height : ℕ) (slim : Slim)
+    (texts : List (Option (List ℕ))) → IsSlim table task.style height task.width (budget_in task table) slim →
+    AreSlimTexts asked task table height slim texts → (place : ℕ) (text : List ℕ) (certificate : Certificate) → 2 ≤ place →
+    slice_get texts place ≡ Some (Some text) → IsTextOf text certificate → IsValidSomewhere task table certificate
+stored_valid asked task narrow table height slim texts tells are place text certificate behind is text_is =
+    by_place place behind (subst (λ (all : List (Option (List ℕ))). slice_get all place ≡ Some (Some text)) are.all is)
   where
-    task : Task
-    task = slim_task asked
-
     same : (one : Option Certificate) (at : ℕ) → IsReadBackAt asked at one → Some (text_at asked at one) ≡ Some (Some text) →
         one ≡ Some certificate
     same one at readable found =
@@ -101,16 +108,16 @@ stored_valid asked table delivery own place text certificate behind is text_is =
         written.1 ∙ ap Some (one_certificate text written.0 certificate written.2 text_is)
 
     by_place : (place : ℕ) → 2 ≤ place →
-        slice_get (None ∷ own.are_texts.page ∷ text_at asked 2 own.slim.kept ∷ text_at asked 3 own.slim.less
-        ∷ text_at asked 4 own.slim.spent ∷ []) place ≡ Some (Some text) → IsValidSomewhere (slim_task asked) table certificate
+        slice_get (None ∷ are.page ∷ text_at asked 2 slim.kept ∷ text_at asked 3 slim.less
+        ∷ text_at asked 4 slim.spent ∷ []) place ≡ Some (Some text) → IsValidSomewhere task table certificate
     by_place zero behind is = absurd (omega (arith, behind))
     by_place (suc zero) behind is = absurd (omega (arith, behind))
-    by_place (suc (suc zero)) behind is = kept_valid (slim_task asked) table asked.number own.slim own.found own.slim.kept
-        certificate own.found.tells.between.kept (same own.slim.kept 2 own.are_texts.kept_readable is)
-    by_place (suc (suc (suc zero))) behind is = less_valid (slim_task asked) table asked.number own.slim own.found
-        own.slim.less certificate own.found.tells.between.less (same own.slim.less 3 own.are_texts.less_readable is)
-    by_place (suc (suc (suc (suc zero)))) behind is = spent_valid (slim_task asked) table asked.number own.slim own.found
-        own.slim.spent certificate own.found.tells.spent (same own.slim.spent 4 own.are_texts.spent_readable is)
+    by_place (suc (suc zero)) behind is = kept_valid task narrow table height slim tells slim.kept certificate
+        tells.between.kept (same slim.kept 2 are.kept_readable is)
+    by_place (suc (suc (suc zero))) behind is = less_valid task narrow table height slim tells slim.less certificate
+        tells.between.less (same slim.less 3 are.less_readable is)
+    by_place (suc (suc (suc (suc zero)))) behind is = spent_valid task narrow table height slim tells slim.spent certificate
+        tells.spent (same slim.spent 4 are.spent_readable is)
     by_place (suc (suc (suc (suc (suc more))))) behind is = absurd cc
 
 -- ---- the check
@@ -148,7 +155,8 @@ module _ (words : List (List ℕ)) (change : Change) (status : ℕ) (ends : Ends
       (subst (λ stores. Contains stores (record { name = judged_name checked; bytes = text })) run.own.stores there)
 
   valid : IsValidSomewhere (slim_task slim) run.table certificate
-  valid = stored_valid slim run.table delivery run.own stands.place text certificate
+  valid = stored_valid slim (slim_task slim) (omega arith) run.table slim.number run.own.slim run.own.texts
+      run.own.found.tells run.own.are_texts stands.place text certificate
       (subst (λ (n : ℕ). 2 ≤ n) (one_place slim earlier is_slim same.place stands.place (judged_name checked) same.named
       stands.named) same.past_page) stands.is text_is
 

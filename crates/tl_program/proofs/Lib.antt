@@ -3,6 +3,7 @@ pub mod AcceptingSlim
 pub mod Alike
 pub mod Asking
 pub mod Checked
+pub mod ChosenLaid
 pub mod Checking
 pub mod Ends
 mod Examples
@@ -10,12 +11,16 @@ pub mod InputRuns
 pub mod Inputs
 pub mod Judging
 pub mod LaidRuns
+pub mod LastWidths
 pub mod Laying
 pub mod Loading
 pub mod Lowest
 pub mod NamedFiles
 pub mod Narrowest
+pub mod PagesStored
 pub mod SlimPages
 pub mod SlimRuns
 pub mod Storing
 pub mod Summing
+pub mod Tidiest
+pub mod Tidying

@@ -105,6 +105,24 @@ pub same_breaks : (csv head : Bool) (floors : List ℕ) (breaking : Breaking) �
 same_breaks true head floors breaking = refl
 same_breaks false head floors breaking = refl
 
+-- a page that is written is stored, with all text of the table
+pub answer_stored : (asked : Asked) (bytes : List ℕ) (change : Change) (table : Table) →
+    IsTableOfFile (source_of asked) bytes table → IsSound table → IsSpellable (breaking_of asked) table → AreNames asked.names →
+    (answer : Answer) → change.files_after ≡ with_all change.files (delivery_of asked answer).stores →
+    (height taken budget : ℕ) (claim : _) → IsWritten (task_of asked) table asked.number budget claim height taken answer →
+    StoresPage asked bytes change table asked.number height
+answer_stored asked bytes change table is_table sound spellable names answer stores height taken budget claim written = record {
+  is_table = is_table;
+  sound = sound;
+  layout = written.layout;
+  fits = written.is_page.fits;
+  page = written.page;
+  whole = whole_page asked.options.html (style_of asked) (breaking_of asked) table asked.number height written.layout
+      written.page sound spellable written.is_page.fits written.is_page.is_page;
+  stored = subst (λ (files : Option Files). Holds files (page_name asked) written.page) (sym stores)
+      (page_there change.files asked answer written.page names written.page_stored);
+}
+
 -- ---- what a run of `lay` stores
 
 module _ (words : List (List ℕ)) (change : Change) (status : ℕ) (asked : Asked) (bytes : List ℕ)
@@ -121,21 +139,10 @@ module _ (words : List (List ℕ)) (change : Change) (status : ℕ) (asked : Ask
   spellable = subst (λ (breaking : Breaking). IsSpellable breaking run.table)
       (same_breaks asked.options.csv asked.options.head (given_or [] asked.options.least) (breaking_of asked)) run.spellable
 
-  -- a page that is written is stored, with all text of the table
   stores_page : (height taken budget : ℕ) (claim : _) →
       IsWritten (task_of asked) run.table asked.number budget claim height taken run.answer →
       StoresPage asked bytes change run.table asked.number height
-  stores_page height taken budget claim written = record {
-    is_table = is_table;
-    sound = run.sound;
-    layout = written.layout;
-    fits = written.is_page.fits;
-    page = written.page;
-    whole = whole_page asked.options.html (style_of asked) (breaking_of asked) run.table asked.number height written.layout
-        written.page run.sound spellable written.is_page.fits written.is_page.is_page;
-    stored = subst (λ (files : Option Files). Holds files (page_name asked) written.page) (sym run.stores)
-        (page_there change.files asked run.answer written.page is.is.names written.page_stored);
-  }
+  stores_page = answer_stored asked bytes change run.table is_table run.sound spellable is.is.names run.answer run.stores
 
 -- ---- by the status
 
@@ -146,7 +153,7 @@ lowest_of task table answer (lowest_laid is) same = (_, _, is)
 lowest_of task table answer (bounded_laid is) same = absurd (omega (arith, same))
 lowest_of task table answer (narrow_laid is) same = absurd (omega (arith, same))
 
-bounded_of : (task : Task) (table : Table) (answer : Answer) {report : Report} → IsLaidAs task table answer report →
+pub bounded_of : (task : Task) (table : Table) (answer : Answer) {report : Report} → IsLaidAs task table answer report →
     status_number (status_of report) ≡ 3 → (height : ℕ) × (lower : ℕ) × (taken : ℕ)
     × IsWrittenBounded task table task.width (budget_in task table) height lower taken answer
 bounded_of task table answer (lowest_laid is) same = absurd (omega (arith, same))

@@ -1,11 +1,8 @@
 -- The theorem of `narrow` follows from how a run ends.
-use Rattle.std.proofs.Common.{◌≡◌, ◌≢◌, ◌⊎◌, inl, inr, ℕ, zero, suc, ◌+◌, ◌-◌, ◌/◌, ◌<◌, ◌≤◌, List, [], Option, Some, None}
+use Rattle.std.proofs.Common.{◌≡◌, ◌≢◌, ◌⊎◌, inl, inr, ℕ, zero, suc, ◌+◌, ◌-◌, ◌/◌, ◌<◌, ◌≤◌, List, Option, Some, None}
 use Rattle.std.proofs.Common.{refl, sym, ap, subst, ◌∙◌, arith}
 use Rattle.std.specs.Prelude.{Bool, if◌then◌else◌, IfSome, MatchOption}
-use Rattle.std.specs.List.{slice_get}
 use Rattle.std.proofs.lemmas.Bool.Decides.{eqb_tells}
-use Rattle.std.proofs.lemmas.Option.{slice_get-get_or}
-use Rattle.tl_base.specs.declared.breaking.Breaking.{Breaking}
 use Rattle.tl_base.specs.declared.limits.TheConstants.{MAX_PAGE_WIDTH}
 use Rattle.tl_base.specs.Desk.{longer}
 use Rattle.tl_cert.specs.declared.certificate.Certificate.{Certificate}
@@ -13,17 +10,14 @@ use Rattle.tl_command.specs.declared.command.Command.TheVariants.{Narrow}
 use Rattle.tl_command.specs.Ask.{Asked}
 use Rattle.tl_table.specs.declared.cell.Table.{Table}
 use Rattle.tl_table.specs.Sound.{IsSound}
-use Rattle.tl_html.specs.Spellable.{IsSpellable}
 use Rattle.tl_narrow.specs.declared.slim.Slim.{Slim}
 use Rattle.tl_narrow.specs.Slims.{IsKept, IsSpentBetween, trial_between}
 use Rattle.tl_narrow.specs.SlimLaws.{MetIsSlimmest, SlimmestIsNoLess, KeptHasSlimmest}
-use Rattle.tl_read.specs.declared.reading.Reading.TheVariants as readings
-use Rattle.tl_read.specs.Reading.{IsReading}
-use Rattle.tl_read.proofs.Readings.{table_within}
 use Rattle.tl_program.specs.declared.report.Report.{Report}
 use Rattle.tl_program.specs.declared.report.Report.TheVariants as reports
 use Rattle.tl_narrow.specs.Slimmest.{IsBelowCounts}
-use Rattle.tl_program.specs.Answers.{budget_in}
+use Rattle.tl_program.specs.declared.task.Task.{Task}
+use Rattle.tl_program.specs.Answers.{budget_in, reach}
 use Rattle.tl_program.specs.Asks.{IsAskOf, input_name, page_name}
 use Rattle.tl_program.specs.Change.{Change, Holds, with_all}
 use Rattle.tl_program.specs.Complete.{ShowsFile}
@@ -38,16 +32,18 @@ use Rattle.tl_program.proofs.Asking.{names_asked}
 use Rattle.tl_program.proofs.Ends.{own_input, refused_input, same_bytes, went}
 use Rattle.tl_program.proofs.Lowest.{same_breaks, whole_page}
 use Rattle.tl_program.proofs.NamedFiles.{text_there}
+use Rattle.tl_program.proofs.PagesStored.{can_be_spelt, page_stored, table_of_bytes}
 use Rattle.tl_program.proofs.SlimRuns.{IsReported, SlimRun, between, is_reported, met, past, slim_run}
 
 -- ---- the certificates
 
 -- where a page was found there is a certificate of it
-pub kept_there : (task : _) (table : Table) (height : ℕ) (slim : Slim) → IsSlimIn task table height slim → slim.width ≢ 0 →
+pub kept_there : (task : Task) (table : Table) (height : ℕ) (handed : Option Certificate) (slim : Slim) →
+    IsSlimIn task table height handed slim → slim.width ≢ 0 →
     (certificate : Certificate) × (slim.kept ≡ Some certificate)
-kept_there task table height slim is some = by_kept slim.kept refl is.tells.between.kept where
+kept_there task table height handed slim is some = by_kept slim.kept refl is.tells.between.kept where
   by_kept : (kept : Option Certificate) → slim.kept ≡ kept →
-      MatchOption kept (slim.width ≡ 0) (IsKept table task.style height MAX_PAGE_WIDTH
+      MatchOption kept (slim.width ≡ 0) (IsKept table task.style height task.width
       (budget_in task table) slim.width) → (certificate : Certificate) × (slim.kept ≡ Some certificate)
   by_kept None same none = absurd (some none)
   by_kept (Some certificate) same kept = (certificate, same)
@@ -56,28 +52,28 @@ kept_there task table height slim is some = by_kept slim.kept refl is.tells.betw
 half_within : (least width : ℕ) → least ≤ width → (least + width - 1) / 2 ≤ width
 half_within least width order = omega (arith, order)
 
-pub last_within : (slim : Slim) → slim.width ≤ MAX_PAGE_WIDTH → (slim.width ≢ 0 → slim.least ≤ slim.width) →
-    trial_between MAX_PAGE_WIDTH slim.least slim.width ≤ MAX_PAGE_WIDTH
-last_within slim within order = elim (eqb_tells slim.width 0) [
-  | inl none ↦ subst (λ (test : Bool). (if test then MAX_PAGE_WIDTH else (slim.least + slim.width - 1) / 2) ≤ MAX_PAGE_WIDTH)
+pub last_within : (most : ℕ) (slim : Slim) → slim.width ≤ most → (slim.width ≢ 0 → slim.least ≤ slim.width) →
+    trial_between most slim.least slim.width ≤ most
+last_within most slim within order = elim (eqb_tells slim.width 0) [
+  | inl none ↦ subst (λ (test : Bool). (if test then most else (slim.least + slim.width - 1) / 2) ≤ most)
       (sym none.0) (omega arith)
-  | inr some ↦ subst (λ (test : Bool). (if test then MAX_PAGE_WIDTH else (slim.least + slim.width - 1) / 2) ≤ MAX_PAGE_WIDTH)
+  | inr some ↦ subst (λ (test : Bool). (if test then most else (slim.least + slim.width - 1) / 2) ≤ most)
       (sym some.0) (omega (arith, within, half_within slim.least slim.width (order some.1)))
 ]
 
--- where the search ended early the budget is below the counts of the widest page
-pub below_counts : (task : _) (table : Table) (height : ℕ) (slim : Slim) → IsSlimIn task table height slim →
-    slim.width ≢ slim.least → slim.least ≤ MAX_PAGE_WIDTH →
-    IsBelowCounts table task.style MAX_PAGE_WIDTH (budget_in task table)
-below_counts task table height slim is apart few = by_spent slim.spent is.tells.spent where
+-- where the search ended early the budget is below the counts of each page from that of the last trial to the widest
+pub below_counts : (task : Task) (table : Table) (height : ℕ) (handed : Option Certificate) (slim : Slim) →
+    IsSlimIn task table height handed slim → slim.width ≢ slim.least → slim.least ≤ task.width → (page : ℕ) →
+    trial_between task.width slim.least slim.width ≤ page → page ≤ task.width →
+    IsBelowCounts table task.style page (budget_in task table)
+below_counts task table height handed slim is apart few page from upto = by_spent slim.spent is.tells.spent where
   by_spent : (spent : Option Certificate) →
-      MatchOption spent ((slim.width ≡ slim.least) ⊎ (slim.least ≡ MAX_PAGE_WIDTH + 1)) (IsSpentBetween
-      table task.style height MAX_PAGE_WIDTH (budget_in task table) slim.least slim.width) →
-      IsBelowCounts table task.style MAX_PAGE_WIDTH (budget_in task table)
+      MatchOption spent ((slim.width ≡ slim.least) ⊎ (slim.least ≡ task.width + 1)) (IsSpentBetween
+      table task.style height task.width (budget_in task table) slim.least slim.width) →
+      IsBelowCounts table task.style page (budget_in task table)
   by_spent None (inl same) = absurd (apart same)
   by_spent None (inr beyond) = absurd (omega (arith, beyond, few))
-  by_spent (Some certificate) spent = spent.shown.below MAX_PAGE_WIDTH
-      (last_within slim is.tells.between.width_within is.tells.between.ordered) (omega arith)
+  by_spent (Some certificate) spent = spent.shown.below page from upto
 
 -- ---- what a run stores
 
@@ -93,51 +89,18 @@ module _ (words : List (List ℕ)) (change : Change) (status : ℕ) (asked : Ask
     abbrev slim : Slim
     slim = went.run.own.slim
 
-    -- the table is that of the bytes
-    read : IsReading (source_of asked) bytes (readings.Table table)
-    read = subst (λ (bs : List ℕ). IsReading (source_of asked) bs (readings.Table table))
-        (same_bytes change.files shown.0 (input_name asked) went.run.content bytes shown.1 shown.2 went.run.holds) went.run.read
-
     is_table : IsSoundTableOf asked bytes table
-    is_table = record { is_table = (table_within (source_of asked) bytes table read).1; sound = went.run.sound }
-
-    spellable : IsSpellable (breaking_of asked) table
-    spellable = subst (λ (breaking : Breaking). IsSpellable breaking table)
-        (same_breaks asked.options.csv asked.options.head (given_or [] asked.options.least) (breaking_of asked))
-        went.run.spellable
+    is_table = table_of_bytes asked (reach (slim_task asked)) (IsSlimmed asked) change went.delivery bytes shown went.run
 
     -- the page of the certificate that was kept is stored
     stores_low : slim.width ≢ 0 → StoresLowPage asked bytes change table slim.width
     stores_low some =
-        let kept = kept_there (slim_task asked) table asked.number slim own.found some in
-        by_kept kept.0 (subst (λ (o : Option Certificate). IsPageOfKept (slim_task asked) table asked.number slim.width o
-        own.are_texts.page) kept.1 own.are_texts.drawn) where
-          page_there : (page : List ℕ) → own.are_texts.page ≡ Some page → Holds change.files_after (page_name asked) page
-          page_there page same = subst (λ files. Holds files (page_name asked) page) (sym went.stores)
-              (subst (λ stores. Holds (with_all change.files stores) (page_name asked) page) (sym own.stores)
-              (text_there asked.names own.texts change.files 1 (page_name asked) page is.is.names.apart named
-              (subst (λ (texts : List (Option (List ℕ))). slice_get texts 1 ≡ Some (Some page)) (sym own.are_texts.all)
-              (ap Some same)))) where
-                named : slice_get asked.names 1 ≡ Some (page_name asked)
-                named = slice_get-get_or asked.names 1 [] (omega (arith, (names_asked Narrow words asked is).fewest))
-
-          by_kept : (certificate : Certificate) →
-              IsPageOfKept (slim_task asked) table asked.number slim.width (Some certificate) own.are_texts.page →
-              StoresLowPage asked bytes change table slim.width
-          by_kept certificate (page, same, drawn) = record {
-            height = drawn.lines;
-            low = drawn.low;
-            stored = record {
-              is_table = is_table.is_table;
-              sound = went.run.sound;
-              layout = drawn.layout;
-              fits = drawn.fits;
-              page = page;
-              whole = whole_page asked.options.html (style_of asked) (breaking_of asked) table slim.width drawn.lines drawn.layout
-                  page went.run.sound spellable drawn.fits drawn.is_page;
-              stored = page_there page same;
-            };
-          }
+        let kept = kept_there (slim_task asked) table asked.number None slim own.found some in
+        let page = page_stored asked bytes change table is_table
+        (can_be_spelt asked (reach (slim_task asked)) (IsSlimmed asked) change went.delivery bytes shown went.run) MAX_PAGE_WIDTH
+        asked.number slim own.texts own.are_texts is.is.names.apart (names_asked Narrow words asked is).fewest
+        (went.stores ∙ ap (with_all change.files) own.stores) kept.0 kept.1 in
+        record { height = page.0; low = page.1; stored = page.2 }
 
 -- ---- by the status
 
@@ -204,10 +167,12 @@ stores_between no_less has words change status ends = λ same asked bytes is sho
         within = (slimmest asked went.run.table own.slim went.run.sound own.found some).2;
       }),
       prints_as change went.delivery.report found.0 _ went.prints found.2 told.2,
-      below_counts (slim_task asked) went.run.table asked.number own.slim own.found told.0 told.1,
+      below_counts (slim_task asked) went.run.table asked.number None own.slim own.found told.0 told.1 MAX_PAGE_WIDTH
+          (last_within MAX_PAGE_WIDTH own.slim own.found.tells.between.width_within own.found.tells.between.ordered)
+          (omega arith),
     )
   where
-    slimmest : (asked : Asked) (table : Table) (slim : Slim) → IsSound table → IsSlimIn (slim_task asked) table asked.number slim →
+    slimmest : (asked : Asked) (table : Table) (slim : Slim) → IsSound table → IsSlimIn (slim_task asked) table asked.number None slim →
         slim.width ≢ 0 → (width : ℕ) × IsNarrowest asked table width × (width ≤ slim.width)
     slimmest asked table slim sound is = has table (style_of asked) asked.number MAX_PAGE_WIDTH
         (budget_in (slim_task asked) table) slim sound is.tells

@@ -1,8 +1,9 @@
 -- What the search that is named tells of the narrowest page, and the page of a certificate that claims so few lines.
-use Rattle.std.proofs.Common.{◌≡◌, ℕ, ◌≤◌, List, None, refl, subst, sym, ◌∙◌}
-use Rattle.std.specs.Prelude.{IfOk, Result, Ok, Err}
+use Rattle.std.proofs.Common.{◌≡◌, ◌≢◌, ◌⊎◌, inl, inr, ℕ, ◌+◌, ◌-◌, ◌/◌, ◌≤◌, List, Option, Some, None, refl, subst, sym, ◌∙◌, arith}
+use Rattle.std.specs.Prelude.{Bool, true, false, ◌==◌, if◌then◌else◌, IfOk, IfSome, Result, Ok, Err}
+use Rattle.std.proofs.lemmas.Bool.{cases_order}
+use Rattle.std.proofs.lemmas.Bool.Decides.{eqb_tells}
 use Rattle.std.specs.declared.alloc.AllocError.{AllocError}
-use Rattle.tl_base.specs.declared.limits.TheConstants.{MAX_PAGE_WIDTH}
 use Rattle.tl_base.specs.declared.style.Style.{Style}
 use Rattle.tl_command.specs.declared.options.Search.{Search}
 use Rattle.tl_cert.specs.declared.certificate.Certificate.{Certificate}
@@ -11,16 +12,19 @@ use Rattle.tl_cert.specs.declared.certificate.Claim.TheVariants.{Lowest, Bounded
 use Rattle.tl_table.specs.declared.cell.Table.{Table}
 use Rattle.tl_table.specs.declared.layout.Layout.{Layout}
 use Rattle.tl_table.specs.Layouts.{Fits}
+use Rattle.tl_table.specs.Least.{IsLeastWidth}
 use Rattle.tl_form.specs.Named.{IsNamed}
 use Rattle.tl_form.specs.Valid.{IsValid}
 use Rattle.tl_form.specs.ValidLaws.{HasHeight}
 use Rattle.tl_nested.specs.Searched.{AreSectionsOf}
 use Rattle.tl_narrow.specs.declared.slim.Slim.{Slim}
 use Rattle.tl_narrow.specs.Slimmest.{ClaimsLow}
-use Rattle.tl_narrow.specs.Slims.{AreSearched, IsSlim}
+use Rattle.tl_narrow.specs.Slims.{AreSearched, IsLowCertificate, IsSlim, trial_between}
+use Rattle.tl_narrow.specs.Trials.{IsBisection, IsReached, at_first, first_least, high_tried, low_tried}
 use Rattle.tl_program.specs.declared.task.Task.{Task}
 use Rattle.tl_program.specs.Answers.{IsOutcomeOf, IsPageFile, budget_in}
 use Rattle.tl_program.specs.Slimmed.{IsSlimIn, IsSlimPage}
+use Rattle.tl_narrow.proofs.Certifying.{own_least}
 
 -- a certificate is valid on the page and for the budget that it names
 pub valid_named : (table : Table) (style : Style) (width budget : ℕ) (certificate : Certificate) →
@@ -58,16 +62,65 @@ drawn_low task table height width lines certificate layout (Ok page) low named f
 drawn_low task table height width lines certificate layout (Err error) low named fits is_page = tt
 
 -- what the search that is named tells, of the budget of each search for the table
-pub slim_by : (task : Task) (table : Table) (height budget : ℕ) (search : Search) (result : Result Slim AllocError) →
-    search ≡ task.search → budget ≡ budget_in task table →
-    IfOk result (IsSlim table task.style height MAX_PAGE_WIDTH budget) →
+pub slim_by : (task : Task) (table : Table) (height budget : ℕ) (handed : Option Certificate) (search : Search)
+    (result : Result Slim AllocError) → search ≡ task.search → budget ≡ budget_in task table →
+    IfOk result (IsSlim table task.style height task.width budget) →
     IfOk result (AreSearched (λ width certificate. AreSectionsOf (IsOutcomeOf search budget) table task.style width budget
-    certificate.sections) MAX_PAGE_WIDTH None) → IfOk result (IsSlimIn task table height)
-slim_by task table height budget search (Ok slim) named cuts tells by = record {
-  tells = subst (λ (b : ℕ). IsSlim table task.style height MAX_PAGE_WIDTH b slim) cuts tells;
+    certificate.sections) task.width handed) → IfOk result (IsSlimIn task table height handed)
+slim_by task table height budget handed search (Ok slim) named cuts tells by = record {
+  tells = subst (λ (b : ℕ). IsSlim table task.style height task.width b slim) cuts tells;
   by = subst (λ (s : Search). AreSearched (λ width certificate. AreSectionsOf (IsOutcomeOf s (budget_in task table)) table
-      task.style width (budget_in task table) certificate.sections) MAX_PAGE_WIDTH None slim) named
+      task.style width (budget_in task table) certificate.sections) task.width handed slim) named
       (subst (λ (b : ℕ). AreSearched (λ width certificate. AreSectionsOf (IsOutcomeOf search b) table task.style width b
-      certificate.sections) MAX_PAGE_WIDTH None slim) cuts by);
+      certificate.sections) task.width handed slim) cuts by);
 }
-slim_by task table height budget search (Err error) named cuts tells by = tt
+slim_by task table height budget handed search (Err error) named cuts tells by = tt
+
+-- ---- a page that was handed in
+
+-- the middle of two widths that differ is no less than 1
+half : (a b : ℕ) → 1 ≤ a → 1 ≤ b → b ≢ a → 1 ≤ (a + b - 1) / 2
+half a b first second apart = elim (cases_order a b) [
+  | inl same ↦ absurd (apart (sym same))
+  | inr differ ↦ elim differ [
+    | inl less ↦ omega (arith, first, second, less)
+    | inr more ↦ omega (arith, first, second, more)
+  ]
+]
+
+-- a search that begins with a page has one at each time
+reached_some : (searched : ℕ → Certificate → Type 0) (table : Table) (style : Style) (height most budget begun_least
+    begun_width least width : ℕ) → 1 ≤ begun_least → 1 ≤ begun_width →
+    IsReached searched table style height most budget begun_least begun_width least width → (1 ≤ least) × (1 ≤ width)
+reached_some searched table style height most budget begun_least begun_width least width low wide at_first = (low, wide)
+reached_some searched table style height most budget begun_least begun_width least width low wide
+    (low_tried {least = before} {width = now} trial reached tried claims) =
+    let both = reached_some searched table style height most budget begun_least begun_width before now low wide reached in
+    (both.0, by_test both.0 both.1 tried.apart (eqb_tells now 0)) where
+      by_test : 1 ≤ before → 1 ≤ now → now ≢ before → ((now == 0) ≡ true) × (now ≡ 0) ⊎ ((now == 0) ≡ false) × (now ≢ 0) →
+          1 ≤ trial_between most before now
+      by_test some there apart (inl none) = absurd (omega (arith, none.1, there))
+      by_test some there apart (inr other) =
+          subst (λ (test : Bool). 1 ≤ (if test then most else (before + now - 1) / 2)) (sym other.0)
+          (half before now some there apart)
+reached_some searched table style height most budget begun_least begun_width least width low wide
+    (high_tried {least = before} {width = now} trial reached tried claims) =
+    let both = reached_some searched table style height most budget begun_least begun_width before now low wide reached in
+    (omega arith, both.1)
+
+-- so a page was found, where one was handed in
+pub handed_found : (task : Task) (table : Table) (height budget : ℕ) (handed : Option Certificate)
+    (searched : ℕ → Certificate → Type 0) (result : Result Slim AllocError) → 1 ≤ task.width →
+    IfSome handed (IsLowCertificate table task.style height task.width budget) →
+    IfOk result (λ slim. (own : ℕ) → IsLeastWidth table task.style own → IsBisection searched table task.style height task.width
+    budget handed own slim.least slim.width) → IfOk result (λ slim. IfSome handed (λ _. slim.width ≢ 0))
+handed_found task table height budget handed searched (Err error) some low order = tt
+handed_found task table height budget None searched (Ok slim) some low order = tt
+handed_found task table height budget (Some certificate) searched (Ok slim) some low order =
+    let own = own_least table task.style task.width low.valid.0 low.valid.1 in
+    let reached = reached_some searched table task.style height task.width budget (first_least task.width _) task.width slim.least
+    slim.width (least_some task.width _) some (order _ own) in
+    λ none. omega (arith, reached.1, none)
+  where
+    least_some : (most own : ℕ) → 1 ≤ first_least most own
+    least_some most own = omega arith

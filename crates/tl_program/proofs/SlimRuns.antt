@@ -22,7 +22,7 @@ use Rattle.tl_program.proofs.InputRuns.{IsOwnStatus, WentRun, went_run}
 -- ---- the run
 
 -- no other status than these three is meant
-slim_apart : (told n : ℕ) → IsSlimStatus told → told ≡ n → (n ≡ 0 → ⊥) → (n ≡ 3 → ⊥) → (n ≡ 12 → ⊥) → ⊥
+pub slim_apart : (told n : ℕ) → IsSlimStatus told → told ≡ n → (n ≡ 0 → ⊥) → (n ≡ 3 → ⊥) → (n ≡ 12 → ⊥) → ⊥
 slim_apart told n (inl is) same nought three twelve = nought (sym same ∙ is)
 slim_apart told n (inr (inl is)) same nought three twelve = three (sym same ∙ is)
 slim_apart told n (inr (inr is)) same nought three twelve = twelve (sym same ∙ is)

@@ -14,4 +14,6 @@ pub mod Narrowest
 pub mod Rejections
 pub mod Slimmed
 pub mod Tasks
+pub mod Tidied
+pub mod Tidiest
 pub mod inner

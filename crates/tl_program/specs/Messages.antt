@@ -45,6 +45,9 @@ status_of (reports.Narrow least width) = statuses.Narrow
 status_of (reports.Slimmest width height) = statuses.Lowest
 status_of (reports.Between width least) = statuses.Bounded
 status_of (reports.TooTall height) = statuses.TooTall
+status_of (reports.Tidy height width) = statuses.Lowest
+status_of (reports.Wider width least) = statuses.Bounded
+status_of reports.Unchosen = statuses.Bounded
 status_of (reports.Refused refusal) = refusal_status refusal
 status_of (reports.Rejected rejection) = statuses.Rejected
 status_of (reports.Summary summary) =
@@ -134,6 +137,11 @@ message_of (reports.Slimmest width height) =
 message_of (reports.Between width least) =
     codes "bounded width " ++ (width_word width ++ (codes " least " ++ (decimal least ++ 10 ∷ [])))
 message_of (reports.TooTall height) = codes "too tall height " ++ (decimal height ++ 10 ∷ [])
+message_of (reports.Tidy height width) =
+    codes "tidy height " ++ (decimal height ++ (codes " width " ++ (decimal width ++ 10 ∷ [])))
+message_of (reports.Wider width least) =
+    codes "untidy width " ++ (decimal width ++ (codes " least " ++ (decimal least ++ 10 ∷ [])))
+message_of reports.Unchosen = codes "untidy choice\n"
 message_of (reports.Refused refusal) = refusal_text refusal
 message_of (reports.Rejected rejection) = codes "rejected: " ++ (rejection_text rejection ++ 10 ∷ [])
 message_of (reports.Summary summary) = summary_text summary

@@ -27,10 +27,11 @@ abbrev pub IsSearchedOn : Task → Table → ℕ → Certificate → Type 0
 IsSearchedOn task table width certificate = AreSectionsOf (IsOutcomeOf task.search (budget_in task table)) table task.style width
     (budget_in task table) certificate.sections
 
--- what the search for the narrowest page of at most `height` lines tells, among all pages, and by which searches
-pub record IsSlimIn (task : Task) (table : Table) (height : ℕ) (slim : Slim) : Type 0 where
-  pub tells : IsSlim table task.style height MAX_PAGE_WIDTH (budget_in task table) slim
-  pub by : AreSearched (IsSearchedOn task table) MAX_PAGE_WIDTH None slim
+-- what the search for the narrowest page of at most `height` lines tells, among the pages of up to as many columns as the task
+-- allows, and by which searches; of the widest one the certificate is handed in, where there is one
+pub record IsSlimIn (task : Task) (table : Table) (height : ℕ) (handed : Option Certificate) (slim : Slim) : Type 0 where
+  pub tells : IsSlim table task.style height task.width (budget_in task table) slim
+  pub by : AreSearched (IsSearchedOn task table) task.width handed slim
 
 -- a width that is not 0
 abbrev pub found_width : ℕ → Option ℕ
@@ -84,9 +85,10 @@ files_of (name ∷ names) (Some text ∷ texts) = record { name = name; bytes = 
 
 -- nothing under the name of the file that is read; then the page, and the certificates of the page that was kept, of one that
 -- is too narrow, and of one that could not be decided
-pub record AreSlimTexts (asked : Asked) (table : Table) (slim : Slim) (texts : List (Option (List ℕ))) : Type 0 where
+pub record AreSlimTexts (asked : Asked) (task : Task) (table : Table) (height : ℕ) (slim : Slim)
+    (texts : List (Option (List ℕ))) : Type 0 where
   pub page : Option (List ℕ)
-  pub drawn : IsPageOfKept (slim_task asked) table asked.number slim.width slim.kept page
+  pub drawn : IsPageOfKept task table height slim.width slim.kept page
   pub all : texts ≡ None ∷ page ∷ text_at asked 2 slim.kept ∷ text_at asked 3 slim.less ∷ text_at asked 4 slim.spent ∷ []
   pub kept_readable : IsReadBackAt asked 2 slim.kept
   pub less_readable : IsReadBackAt asked 3 slim.less
@@ -95,8 +97,8 @@ pub record AreSlimTexts (asked : Asked) (table : Table) (slim : Slim) (texts : L
 -- the search is reported, and its files are stored
 pub record IsSlimmed (asked : Asked) (table : Table) (delivery : Delivery) : Type 0 where
   pub slim : Slim
-  pub found : IsSlimIn (slim_task asked) table asked.number slim
+  pub found : IsSlimIn (slim_task asked) table asked.number None slim
   pub reports : delivery.report ≡ slim_report asked.number slim
   pub texts : List (Option (List ℕ))
-  pub are_texts : AreSlimTexts asked table slim texts
+  pub are_texts : AreSlimTexts asked (slim_task asked) table asked.number slim texts
   pub stores : delivery.stores ≡ files_of asked.names texts

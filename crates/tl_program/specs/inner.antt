@@ -4,3 +4,4 @@ pub mod Claims
 pub mod Printing
 pub mod Steps
 pub mod Summaries
+pub mod Tidying

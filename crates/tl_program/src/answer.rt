@@ -10,6 +10,7 @@ ghost use Rattle.tl_table.specs.Sound.{IsSound};
 ghost use Rattle.tl_form.specs.Subjects.{meant};
 ghost use Rattle.tl_program.specs.Answers.{IsPageFile, certificate_file, IsReadBack};
 ghost use Rattle.tl_program.specs.Answers.{IsLaidAs};
+ghost use Rattle.tl_program.specs.inner.Claims.{report_of};
 ghost use Rattle.tl_program.specs.inner.Certified.{IsFound};
 ghost use Rattle.tl_program.specs.inner.Steps.{IsUsableTable};
 
@@ -95,13 +96,29 @@ fn lowest<R: Threads + Sync, G: Gate>(
     requires wide { (least : ℕ) → IsLeastWidth table.now task.now.style least → least ≤ task.now.width }
     ensures { IfOk result (λ answer. IsLaidAs task.now table.now answer answer.report) }
 {
-    let sections = searched(rt, alloc, task, table, budget, gate)?;
-    let certificate = certificate_of(alloc, task.style, task.width, budget, sections);
+    let certificate = found(rt, alloc, task, table, budget, gate)?;
     laid(alloc, task, table, budget, &certificate)
 }
 
+/// The certificate of the sections that the search finds on the page.
+pub fn found<R: Threads + Sync, G: Gate>(
+    rt: &R,
+    alloc: Global,
+    task: &Task,
+    table: &Table,
+    budget: u32,
+    gate: &G,
+) -> Result<Certificate, AllocError>
+    requires usable { IsUsableTable task.now table.now budget }
+    requires wide { (least : ℕ) → IsLeastWidth table.now task.now.style least → least ≤ task.now.width }
+    ensures { IfOk result (IsFound task.now table.now budget) }
+{
+    let sections = searched(rt, alloc, task, table, budget, gate)?;
+    Ok(certificate_of(alloc, task.style, task.width, budget, sections))
+}
+
 /// The page of the layout that the certificate of a search names, with the certificate.
-fn laid(
+pub fn laid(
     alloc: Global,
     task: &Task,
     table: &Table,
@@ -111,7 +128,8 @@ fn laid(
     requires usable { IsUsableTable task.now table.now budget }
     requires wide { (least : ℕ) → IsLeastWidth table.now task.now.style least → least ≤ task.now.width }
     requires found { IsFound task.now table.now budget certificate.now }
-    ensures { IfOk result (λ answer. IsLaidAs task.now table.now answer answer.report) }
+    ensures laid { IfOk result (λ answer. IsLaidAs task.now table.now answer answer.report) }
+    ensures told { IfOk result (λ answer. (taken : ℕ) × (answer.report ≡ report_of task.now.width certificate.now.claim taken)) }
 {
     let layout = layout(alloc, table, task.style, certificate)?;
     let width = total_width(task.style, layout.widths.as_slice());

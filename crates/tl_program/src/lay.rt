@@ -42,7 +42,12 @@ pub fn lay_table<R: Threads + Sync, D: Desk, G: Gate>(
 }
 
 /// Stores the page and the certificate, those that there are, and prints the message.
-fn deliver_answer<D: Desk>(alloc: Global, ask: &Ask<'_>, desk: &mut D, answer: &Answer) -> Status
+pub fn deliver_answer<D: Desk>(
+    alloc: Global,
+    ask: &Ask<'_>,
+    desk: &mut D,
+    answer: &Answer,
+) -> Status
     requires names { 2 ≤ length ask.now.names.now }
     ensures delivered { IsDelivered result
         (between D.Desk desk.old desk.new) (delivery_of (asked_by ask.now) answer.now) }

@@ -26,6 +26,7 @@ mod summary;
 mod task;
 #[cfg(test)]
 mod tests;
+mod tidy;
 mod widths;
 
 use run::run;

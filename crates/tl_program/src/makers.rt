@@ -1,6 +1,6 @@
 //! The searches that are named, as makers of solvers.
 
-ghost use Rattle.std.specs.Prelude.{◌≤◌, ℕ, IfOk};
+ghost use Rattle.std.specs.Prelude.{◌≢◌, ◌≤◌, ℕ, IfOk, IfSome};
 ghost use Rattle.tl_base.specs.declared.limits.TheConstants.{MAX_BUDGET, MAX_PAGE_WIDTH};
 ghost use Rattle.tl_astar.specs.Best.{IsBestOutcome};
 ghost use Rattle.tl_branch.specs.Learn.{IsLearnOutcome};
@@ -8,7 +8,7 @@ ghost use Rattle.tl_solve.specs.Plain.{IsPlainOutcome};
 ghost use Rattle.tl_table.specs.Least.{IsLeastWidth};
 ghost use Rattle.tl_table.specs.Sound.{IsSound};
 ghost use Rattle.tl_nested.specs.Searched.{AreSectionsOf, AreWritable};
-ghost use Rattle.tl_narrow.specs.Slims.{IsSlim};
+ghost use Rattle.tl_narrow.specs.Slims.{IsLowCertificate};
 ghost use Rattle.tl_program.specs.Answers.{IsOutcomeOf};
 ghost use Rattle.tl_program.specs.Slimmed.{IsSlimIn};
 ghost use Rattle.tl_program.specs.inner.Steps.{IsUsableTable};
@@ -19,7 +19,7 @@ use std::thread::Threads;
 use tl_astar::Best;
 use tl_base::{Gate, List, MAX_PAGE_WIDTH};
 use tl_branch::Learn;
-use tl_cert::Section;
+use tl_cert::{Certificate, Section};
 use tl_command::Search;
 use tl_narrow::{Slim, slimmest};
 use tl_nested::{Make, sections};
@@ -122,18 +122,22 @@ pub fn searched<R: Threads + Sync, G: Gate>(
     }
 }
 
-/// Between which widths the narrowest page of at most `height` lines is, by the search that is named.
+/// Between which widths the narrowest page of at most `height` lines is, among those of up to as many columns
+/// as the task allows, by the search that is named. Of the widest one a certificate may be handed in.
 pub fn slimmest_by<R: Threads + Sync, G: Gate>(
     rt: &R,
     alloc: Global,
     task: &Task,
     table: &Table,
     height: u32,
+    kept: Option<Certificate>,
     budget: u32,
     gate: &G,
 ) -> Result<Slim, AllocError>
     requires usable { IsUsableTable task.now table.now budget }
-    ensures { IfOk result (IsSlimIn task.now table.now height) }
+    requires kept { IfSome kept (IsLowCertificate table.now task.now.style height task.now.width budget) }
+    ensures slim { IfOk result (IsSlimIn task.now table.now height kept) }
+    ensures handed { IfOk result (λ slim. IfSome kept (λ _. slim.width ≢ 0)) }
 {
     match task.search {
         Search::Plain => slimmest(
@@ -142,8 +146,8 @@ pub fn slimmest_by<R: Threads + Sync, G: Gate>(
             table,
             task.style,
             height,
-            MAX_PAGE_WIDTH,
-            None,
+            task.width,
+            kept,
             budget,
             task.workers,
             &MakePlain,
@@ -155,8 +159,8 @@ pub fn slimmest_by<R: Threads + Sync, G: Gate>(
             table,
             task.style,
             height,
-            MAX_PAGE_WIDTH,
-            None,
+            task.width,
+            kept,
             budget,
             task.workers,
             &MakeBest,
@@ -168,8 +172,8 @@ pub fn slimmest_by<R: Threads + Sync, G: Gate>(
             table,
             task.style,
             height,
-            MAX_PAGE_WIDTH,
-            None,
+            task.width,
+            kept,
             budget,
             task.workers,
             &MakeLearn,

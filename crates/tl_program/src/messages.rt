@@ -141,6 +141,13 @@ pub fn text(alloc: Global, report: Report) -> Result<String, AllocError>
         }
         Report::Between { width, least } => between_text(alloc, width, least),
         Report::TooTall { height } => format!(in alloc; "too tall height {height}\n"),
+        Report::Tidy { height, width } => {
+            format!(in alloc; "tidy height {height} width {width}\n")
+        }
+        Report::Wider { width, least } => {
+            format!(in alloc; "untidy width {width} least {least}\n")
+        }
+        Report::Unchosen => format!(in alloc; "untidy choice\n"),
         Report::Refused(refusal) => refusal_text(alloc, refusal),
         Report::Rejected(rejection) => {
             let reason = rejection_text(alloc, rejection)?;

@@ -1,18 +1,18 @@
 //! The own part of `narrow`: it looks for the narrowest page that holds the table of its file in so many
 //! lines, and stores that page with the certificates that show it.
 
-ghost use Rattle.std.specs.Prelude.{◌≡◌, ◌≤◌, ◌∷◌, [], ℕ, IfOk, IfSome, length, map, string_bytes};
+ghost use Rattle.std.specs.Prelude.{◌≡◌, ◌≤◌, ◌∷◌, [], ℕ, None, IfOk, IfSome, length, map, string_bytes};
 ghost use Rattle.tl_base.specs.declared.limits.TheConstants.{MAX_HEIGHT, MAX_PAGE_WIDTH};
 ghost use Rattle.tl_cert.specs.Text.{IsWritable};
 ghost use Rattle.tl_command.specs.Ask.{asked_by};
 ghost use Rattle.tl_narrow.specs.declared.slim.Slim.{Slim as S};
-ghost use Rattle.tl_narrow.specs.Slims.{IsLowCertificate};
+ghost use Rattle.tl_narrow.specs.Slims.{IsLowCertificate, IsSlim};
 ghost use Rattle.tl_program.specs.Change.{between, as_stored};
 ghost use Rattle.tl_program.specs.Deliveries.{Delivery};
 ghost use Rattle.tl_program.specs.Slimmed.{AreSlimTexts, IsPageOfKept, IsReadBackAt, IsSlimIn, IsSlimPage, IsSlimmed};
 ghost use Rattle.tl_program.specs.Slimmed.{files_of, found_width, is_named_at, slim_report, text_at};
 ghost use Rattle.tl_program.specs.Tasks.{slim_task};
-ghost use Rattle.tl_program.specs.inner.Steps.{GoesOn, IsUsableTable};
+ghost use Rattle.tl_program.specs.inner.Steps.{GoesOn, IsUsableTable, MayDeliver};
 
 use crate::answer::{certificate_file, page_file};
 use crate::makers::slimmest_by;
@@ -31,9 +31,9 @@ use tl_table::Table;
 
 /// What is reported of the narrowest page, and the texts of its files in the order of their names.
 #[derive(Drop)]
-struct SlimAnswer {
-    report: Report,
-    texts: Vec<Option<List<u8>>>,
+pub struct SlimAnswer {
+    pub report: Report,
+    pub texts: Vec<Option<List<u8>>>,
 }
 
 /// Looks for the narrowest page that holds the table in at most as many lines as are asked for, stores what
@@ -54,15 +54,29 @@ pub fn narrow_table<R: Threads + Sync, D: Desk, G: Gate>(
     requires usable { IsUsableTable task.now table.now budget }
     ensures { GoesOn (IsSlimmed (asked_by ask.now) table.now) result (between D.Desk desk.old desk.new) }
 {
-    let answer = match slimmed(rt, alloc, ask, task, table, budget, gate) {
-        Ok(answer) => answer,
-        Err(_) => return Status::Memory,
-    };
-    let files = match files_of(alloc, ask.names, answer.texts.as_slice()) {
-        Ok(files) => files,
-        Err(_) => return Status::Memory,
-    };
-    deliver(alloc, desk, answer.report, files.as_slice())
+    match slimmed(rt, alloc, ask, task, table, budget, gate) {
+        Ok(answer) => deliver_texts(alloc, ask, desk, &answer),
+        Err(_) => Status::Memory,
+    }
+}
+
+/// Stores the texts that there are under their names, and prints what is reported.
+pub fn deliver_texts<D: Desk>(
+    alloc: Global,
+    ask: &Ask<'_>,
+    desk: &mut D,
+    answer: &SlimAnswer,
+) -> Status
+    ensures { MayDeliver (record {
+      report = answer.now.report;
+      stores = files_of (map string_bytes ask.now.names.now) answer.now.texts.items;
+    }) result
+        (between D.Desk desk.old desk.new) }
+{
+    match files_of(alloc, ask.names, answer.texts.as_slice()) {
+        Ok(files) => deliver(alloc, desk, answer.report, files.as_slice()),
+        Err(_) => Status::Memory,
+    }
 }
 
 /// What is reported of a search for the narrowest page of at most `height` lines.
@@ -101,23 +115,42 @@ fn slimmed<R: Threads + Sync, G: Gate>(
     budget: u32,
     gate: &G,
 ) -> Result<SlimAnswer, AllocError>
-    requires task { task.now ≡ slim_task (asked_by ask.now) }
     requires lines { ask.now.number ≤ MAX_HEIGHT }
     requires usable { IsUsableTable task.now table.now budget }
-    ensures { IfOk result (λ answer. (slim : S) × IsSlimIn task.now table.now ask.now.number slim
-        × (answer.report ≡ slim_report ask.now.number slim) × AreSlimTexts (asked_by ask.now) table.now slim answer.texts.items) }
+    ensures { IfOk result (λ answer. (slim : S) × IsSlimIn task.now table.now ask.now.number None slim
+        × (answer.report ≡ slim_report ask.now.number slim)
+        × AreSlimTexts (asked_by ask.now) task.now table.now ask.now.number slim answer.texts.items) }
 {
-    let slim = slimmest_by(rt, alloc, task, table, ask.number, budget, gate)?;
+    let slim = slimmest_by(rt, alloc, task, table, ask.number, None, budget, gate)?;
+    Ok(SlimAnswer {
+        report: slim_report(ask.number, &slim),
+        texts: slim_texts(alloc, ask, task, table, ask.number, budget, &slim)?,
+    })
+}
+
+/// The texts of the files of what was found, in the order of their names: none under the first; then the page
+/// of the certificate that was kept, and the certificates.
+pub fn slim_texts(
+    alloc: Global,
+    ask: &Ask<'_>,
+    task: &Task,
+    table: &Table,
+    height: u32,
+    budget: u32,
+    slim: &Slim,
+) -> Result<Vec<Option<List<u8>>>, AllocError>
+    requires usable { IsUsableTable task.now table.now budget }
+    requires lines { height ≤ MAX_HEIGHT }
+    requires slim { IsSlim table.now task.now.style height task.now.width budget slim.now }
+    ensures { IfOk result (λ texts. AreSlimTexts (asked_by ask.now) task.now table.now height slim.now texts.items) }
+{
     let mut texts = Vec::new(alloc);
     texts.push(None)?;
-    texts.push(kept_page(alloc, task, table, ask.number, budget, &slim)?)?;
+    texts.push(kept_page(alloc, task, table, height, budget, slim)?)?;
     texts.push(text_at(alloc, ask, 2, &slim.kept)?)?;
     texts.push(text_at(alloc, ask, 3, &slim.less)?)?;
     texts.push(text_at(alloc, ask, 4, &slim.spent)?)?;
-    Ok(SlimAnswer {
-        report: slim_report(ask.number, &slim),
-        texts,
-    })
+    Ok(texts)
 }
 
 /// The page of the certificate that was kept, where there is one.
@@ -131,7 +164,7 @@ fn kept_page(
 ) -> Result<Option<List<u8>>, AllocError>
     requires usable { IsUsableTable task.now table.now budget }
     requires lines { height ≤ MAX_HEIGHT }
-    requires slim { IsSlimIn task.now table.now height slim.now }
+    requires slim { IsSlim table.now task.now.style height task.now.width budget slim.now }
     ensures { IfOk result (IsPageOfKept task.now table.now height slim.now.width slim.now.kept) }
 {
     match &slim.kept {

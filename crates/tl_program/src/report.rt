@@ -42,6 +42,13 @@ pub enum Report {
     Between { width: Option<u32>, least: u32 },
     /// No page of any width holds the table in so few lines.
     TooTall { height: u32 },
+    /// A page of this height is stored, the lowest on this width, which is the least of a page that is so
+    /// low, in the layout that is chosen.
+    Tidy { height: u32, width: u32 },
+    /// The lowest page is stored, on this width; a page below the least width is not so low.
+    Wider { width: u32, least: u32 },
+    /// The lowest page is stored, on the narrowest page that is so low, in some layout.
+    Unchosen,
     /// The file is refused.
     Refused(Refusal),
     /// The certificate is rejected.
@@ -66,6 +73,8 @@ impl Report {
             Report::Slimmest { .. } => Status::Lowest,
             Report::Between { .. } => Status::Bounded,
             Report::TooTall { .. } => Status::TooTall,
+            Report::Tidy { .. } => Status::Lowest,
+            Report::Wider { .. } | Report::Unchosen => Status::Bounded,
             Report::Refused(refusal) => refusal_status(refusal),
             Report::Rejected(_) => Status::Rejected,
             Report::Summary(summary) if summary.lower == summary.height => Status::Lowest,

@@ -14,6 +14,7 @@ ghost use Rattle.tl_program.specs.Headline.{Ends};
 ghost use Rattle.tl_program.specs.Lowest.{FitsNone, StoresBounded, StoresLowest};
 ghost use Rattle.tl_program.specs.Messages.{status_number};
 ghost use Rattle.tl_program.specs.Tasks.{slim_task, task_of};
+ghost use Rattle.tl_program.specs.Tidiest.{StoresTidy};
 ghost use Rattle.tl_program.specs.inner.Steps.{IsTaskInRange};
 
 use crate::check::check_table;
@@ -25,6 +26,7 @@ use crate::report::Report;
 use crate::status::Status;
 use crate::summary::demonstration;
 use crate::task::Task;
+use crate::tidy::tidy_table;
 use std::alloc::Global;
 use std::thread::Threads;
 use tl_base::{Desk, Gate, MAX_PAGE_WIDTH};
@@ -51,6 +53,8 @@ pub fn run<R: Threads + Sync, D: Desk, G: Gate>(
     ensures between { StoresBetween (map string_bytes words.now)
         (between D.Desk desk.old desk.new) result }
     ensures too_tall { HoldsNone (map string_bytes words.now)
+        (between D.Desk desk.old desk.new) result }
+    ensures tidy { StoresTidy (map string_bytes words.now)
         (between D.Desk desk.old desk.new) result }
     ensures ends { Ends (map string_bytes words.now)
         (between D.Desk desk.old desk.new) result }
@@ -100,6 +104,7 @@ fn carry_out<R: Threads + Sync, D: Desk, G: Gate>(
     match ask.command {
         Command::Lay => lay_file(rt, alloc, &ask, desk, gate),
         Command::Narrow => narrow_file(rt, alloc, &ask, desk, gate),
+        Command::Tidy => tidy_file(rt, alloc, &ask, desk, gate),
         Command::Check => check_file(rt, alloc, &ask, desk, gate),
         Command::Demo => demonstrate(rt, alloc, &ask, desk, gate),
     }
@@ -148,6 +153,30 @@ fn narrow_file<R: Threads + Sync, D: Desk, G: Gate>(
     match load_input(alloc, ask, &task, desk) {
         Ok(Input::Table { table, budget }) => {
             narrow_table(rt, alloc, ask, &task, &table, budget, desk, gate)
+        }
+        Ok(Input::Reported(report)) => deliver(alloc, desk, report, &[]),
+        Err(_) => Status::Memory,
+    }
+}
+
+/// Reads the file, and lays its table out as low and then as narrow as can be.
+fn tidy_file<R: Threads + Sync, D: Desk, G: Gate>(
+    rt: &R,
+    alloc: Global,
+    ask: &Ask<'_>,
+    desk: &mut D,
+    gate: &G,
+) -> Status
+    requires command { ask.now.command ≡ commands.Tidy }
+    requires names { 2 ≤ length ask.now.names.now }
+    requires range { IsTaskInRange (task_of (asked_by ask.now)) }
+    ensures ends { (words : List (List ℕ)) → IsAsk words (asked_by ask.now) → Ends words
+        (between D.Desk desk.old desk.new) (status_number result) }
+{
+    let task = Task::of(ask);
+    match load_input(alloc, ask, &task, desk) {
+        Ok(Input::Table { table, budget }) => {
+            tidy_table(rt, alloc, ask, &task, &table, budget, desk, gate)
         }
         Ok(Input::Reported(report)) => deliver(alloc, desk, report, &[]),
         Err(_) => Status::Memory,

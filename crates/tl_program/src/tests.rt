@@ -9,6 +9,7 @@ mod narrow;
 mod pages;
 mod refusals;
 mod styles;
+mod tidy;
 mod usage;
 mod workers;
 

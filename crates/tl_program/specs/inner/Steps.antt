@@ -79,3 +79,8 @@ abbrev pub GoesOn : (Delivery → Type 0) → Status → Change → Type 0
 GoesOn Own status change =
     ((delivery : Delivery) × (IsUnread change delivery ⊎ Own delivery) × IsDelivered status change delivery)
     ⊎ ((status ≡ statuses.Memory) × (change.files_after ≡ change.files) × (change.said_after ≡ change.said))
+
+-- this is delivered; or memory runs out before anything is stored
+abbrev pub MayDeliver : Delivery → Status → Change → Type 0
+MayDeliver delivery status change = IsDelivered status change delivery
+    ⊎ ((status ≡ statuses.Memory) × (change.files_after ≡ change.files) × (change.said_after ≡ change.said))

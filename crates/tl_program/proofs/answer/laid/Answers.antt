@@ -76,8 +76,8 @@ certificate_file-requires c =
     c.requires.found.expected c.requires.found.writable c.requires.wide
     c.requires.usable.range.some c.requires.usable.range.narrow c.requires.usable.cuts)
 
-pub returns : goal.returns
-returns c =
+pub returns-clause-laid : goal.returns-clause-laid
+returns-clause-laid c =
     let is : c.args.certificate.now.claim ≡ claim_of c.requires.found.sections =
     ap (λ (made : Certificate). made.claim) c.requires.found.made in
     let task = c.args.task.now in

@@ -25,6 +25,13 @@ narrow_file-requires-clause-lines g c = λ lifetimes outlives.
     let asked = asked_by c.in-Some.ask in
     (subst (λ (command : Command). IsNumberOf command asked.number) c.in-Narrow.is c.in-Some.ensures.ask.in_range).most
 
+pub tidy_file-requires-clause-range : goal.tidy_file-requires-clause-range
+tidy_file-requires-clause-range g c = λ lifetimes outlives.
+    let asked = asked_by c.in-Some.ask in
+    let is = c.in-Some.ensures.ask in
+    let of_number = subst (λ (command : Command). IsNumberOf command asked.number) c.in-Tidy.is is.in_range in
+    task_in_range (map string_bytes c.args.words.now) asked is of_number.least of_number.most
+
 pub check_file-requires-clause-range : goal.check_file-requires-clause-range
 check_file-requires-clause-range g c = λ lifetimes outlives.
     let asked = asked_by c.in-Some.ask in

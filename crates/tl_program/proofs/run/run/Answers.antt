@@ -5,6 +5,7 @@ use Rattle.tl_program.specs.Change.{Change, between}
 use Rattle.tl_program.specs.Complete.{IsComplete, IsRefusedSo, IsAcceptedSo, IsRejectedSo, AcceptsLaid}
 use Rattle.tl_program.specs.Lowest.{FitsNone, StoresBounded, StoresLowest}
 use Rattle.tl_program.specs.Narrowest.{AcceptsSlim, FindsWidth, HoldsNone, RefusesSlim, StoresBetween, StoresNarrowest}
+use Rattle.tl_program.specs.Tidiest.{StoresTidy}
 use Rattle.tl_program.proofs.Accepting.{accepts_laid}
 use Rattle.tl_program.proofs.AcceptingSlim.{accepts_slim}
 use Rattle.tl_program.proofs.Alike.{checks_alike, lowest_alike, refusals_alike}
@@ -12,6 +13,7 @@ use Rattle.tl_program.proofs.Checked.{accepted_so, rejected_so}
 use Rattle.tl_program.proofs.Ends.{complete, refused_so}
 use Rattle.tl_program.proofs.Lowest.{stores_lowest, stores_bounded, fits_none}
 use Rattle.tl_program.proofs.Narrowest.{finds, holds_none, refused_slim, stores_between, stores_narrowest}
+use Rattle.tl_program.proofs.Tidiest.{stores_tidy}
 use Rattle.tl_program.proofs.run.run.Goals as goal
 
 -- what holds of a status holds of its number
@@ -63,6 +65,13 @@ returns-clause-refuses_slim g c =
     let words = map string_bytes c.args.words.now in
     let change = between g.D.Desk c.args.desk.now c.carry_out.new.desk in
     numbered RefusesSlim words change _ _ c.number.ensures (refused_slim words change _ c.carry_out.ensures.ends)
+
+pub returns-clause-tidy : goal.returns-clause-tidy
+returns-clause-tidy g c =
+    let words = map string_bytes c.args.words.now in
+    let change = between g.D.Desk c.args.desk.now c.carry_out.new.desk in
+    numbered StoresTidy words change _ _ c.number.ensures
+    (stores_tidy c.met_is_slimmest.ensures words change _ c.carry_out.ensures.ends)
 
 pub returns-clause-accepts_slim : goal.returns-clause-accepts_slim
 returns-clause-accepts_slim g c =

@@ -1,0 +1,300 @@
+//! The narrowest of the lowest pages, in the layout that is chosen: what `tidy` stores and prints, and what
+//! `check` says of it.
+
+use crate::tests::{NESTED, ONE, TWO, check_refused, desk, held, status_of};
+use std::process::Abort;
+use std::test::Fail as Failure;
+use std::thread::Threads;
+use tl_base::{Fail, MemoryDesk};
+
+/// A command line over a file, with its status and its message; the page where one is stored; and how the
+/// files of the certificate, of that of the page one column narrower, and of that with which the search
+/// ended early begin, where they are stored.
+#[derive(Clone, Copy)]
+struct Tidied<'a> {
+    line: &'a str,
+    file: &'a str,
+    status: u8,
+    message: &'a str,
+    page: Option<&'a str>,
+    kept: Option<&'a str>,
+    less: Option<&'a str>,
+    spent: Option<&'a str>,
+}
+
+/// Three lines on 7 columns and on 6, and four on 5.
+const FOUR_CELLS: &str = "<table><tr><td>a a<td>b<tr><td>c<td>d d</table>";
+
+const IN_SIX: Tidied<'static> = Tidied {
+    line: "tidy 7 t.html p.txt c.txt l.txt s.txt",
+    file: FOUR_CELLS,
+    status: 0,
+    message: "tidy height 3 width 6\n",
+    page: Some("a  b  \na     \nc  d d\n"),
+    kept: Some("tablelayout 1 6 plain 5000\nlowest 3\n"),
+    less: Some("tablelayout 1 5 plain 5000\nlowest 4\n"),
+    spent: None,
+};
+
+const TWO_LINES: Tidied<'static> = Tidied {
+    line: "tidy 12 t.html p.txt c.txt l.txt s.txt",
+    file: TWO,
+    message: "tidy height 2 width 10\n",
+    page: Some("aaa  cc dd\nbbb  ee   \n"),
+    kept: Some("tablelayout 1 10 plain 5000\nlowest 2\n"),
+    less: Some("tablelayout 1 9 plain 5000\nlowest 3\n"),
+    ..IN_SIX
+};
+
+const FOUND: &[Tidied<'static>] = &[
+    IN_SIX,
+    Tidied {
+        line: "tidy 7 t.html p.txt c.txt l.txt s.txt --solver plain",
+        ..IN_SIX
+    },
+    Tidied {
+        line: "tidy 7 t.html p.txt c.txt l.txt s.txt --solver best --workers 3",
+        ..IN_SIX
+    },
+    TWO_LINES,
+    // The frame takes a line above and below and between, and a column at each side.
+    Tidied {
+        line: "tidy 12 t.html p.txt c.txt l.txt s.txt --style frame",
+        message: "tidy height 4 width 11\n",
+        page: Some("+---+-----+\n|aaa|cc dd|\n|bbb|ee   |\n+---+-----+\n"),
+        kept: Some("tablelayout 1 11 frame 5000\nlowest 4\n"),
+        less: Some("tablelayout 1 10 frame 5000\nlowest 5\n"),
+        ..TWO_LINES
+    },
+    // A nested table is laid out as before, in the room that it has.
+    Tidied {
+        line: "tidy 12 t.html p.txt c.txt l.txt s.txt --budget 100",
+        file: NESTED,
+        kept: Some("tablelayout 1 10 plain 100\nlowest 2\n"),
+        less: Some("tablelayout 1 9 plain 100\nlowest 3\n"),
+        ..TWO_LINES
+    },
+    Tidied {
+        line: "tidy 12 t.html p.txt c.txt l.txt s.txt --html",
+        page: Some(
+            "<table>\n<colgroup><col style=\"width:3ch\"><col style=\"width:5ch\"></colgroup>\n\
+             <tr><td><p>aaa bbb</p></td><td><p>cc dd ee</p></td></tr>\n</table>\n",
+        ),
+        ..TWO_LINES
+    },
+    // One line in 8 columns, which is all that is asked for, and in no fewer.
+    Tidied {
+        line: "tidy 8 t.html p.txt c.txt l.txt s.txt",
+        file: ONE,
+        message: "tidy height 1 width 8\n",
+        page: Some("aa bb cc\n"),
+        kept: Some("tablelayout 1 8 plain 5000\nlowest 1\n"),
+        less: Some("tablelayout 1 7 plain 5000\nlowest 2\n"),
+        ..IN_SIX
+    },
+    // A table without columns has no lines, and fits the narrowest page that there is.
+    Tidied {
+        line: "tidy 9 t.html p.txt c.txt l.txt s.txt",
+        file: "<table></table>",
+        message: "tidy height 0 width 1\n",
+        page: Some(""),
+        kept: Some("tablelayout 1 1 plain 5000\nlowest 0\n"),
+        less: None,
+        ..IN_SIX
+    },
+];
+
+/// Told as by `lay`: the page is not known to be the lowest, or there is none.
+const EARLY: &[Tidied<'static>] = &[
+    Tidied {
+        line: "tidy 12 t.html p.txt c.txt l.txt s.txt --budget 0",
+        status: 3,
+        message: "bounded height 3 lower 2 width 7\n",
+        page: Some("aaa  cc\nbbb  dd\n     ee\n"),
+        kept: Some("tablelayout 1 12 plain 0\nbounded 3 2\n"),
+        less: None,
+        ..TWO_LINES
+    },
+    Tidied {
+        line: "tidy 6 t.html p.txt c.txt l.txt s.txt",
+        status: 4,
+        message: "narrow least 7 width 6\n",
+        page: None,
+        kept: Some("tablelayout 1 6 plain 5000\nnarrow 7\nchain 0 0 1\nend\n"),
+        less: None,
+        ..TWO_LINES
+    },
+];
+
+/// What is not named is not stored, and all else is as with every file.
+const UNNAMED: &[Tidied<'static>] = &[
+    Tidied {
+        line: "tidy 12 t.html p.txt",
+        kept: None,
+        less: None,
+        ..TWO_LINES
+    },
+    Tidied {
+        line: "tidy 12 t.html p.txt c.txt",
+        less: None,
+        ..TWO_LINES
+    },
+    Tidied {
+        line: "tidy 12 t.html p.txt c.txt l.txt",
+        ..TWO_LINES
+    },
+];
+
+/// The file of this name begins so, or is not there.
+fn begins(desk: &MemoryDesk, name: &str, wanted: Option<&str>) -> bool {
+    match (held(desk, name), wanted) {
+        (Some(text), Some(wanted)) => {
+            text.starts_with(wanted.as_bytes()) && text.ends_with(b"\nend\n")
+        }
+        (None, None) => true,
+        _ => false,
+    }
+}
+
+/// Runs the case, and compares all that is wanted of it.
+fn check(
+    rt: &(impl Abort + AllocGlobal + Threads + Sync),
+    case: &Tidied<'_>,
+) -> Result<(), Failure> {
+    let alloc = rt.alloc();
+    let line = case.line;
+    let mut desk = desk(alloc, case.file.as_bytes(), &[])?;
+    let status = status_of(rt, alloc, line, &mut desk)?;
+    assert_eq!(rt; status, case.status, "{line}");
+    assert_eq!(rt; desk.said(), case.message.as_bytes(), "{line}");
+    let page = case.page.map(|page| page.as_bytes());
+    assert_eq!(rt; held(&desk, "p.txt"), page, "{line}");
+    assert!(rt; begins(&desk, "c.txt", case.kept), "{line}: c.txt");
+    assert!(rt; begins(&desk, "l.txt", case.less), "{line}: l.txt");
+    assert!(rt; begins(&desk, "s.txt", case.spent), "{line}: s.txt");
+    Ok(())
+}
+
+#[test]
+fn the_lowest_page_is_stored_on_the_narrowest(rt: HostRuntime) -> Result<(), Failure> {
+    for cases in [FOUND, EARLY, UNNAMED] {
+        for case in cases {
+            check(&rt, case)?;
+        }
+    }
+    Ok(())
+}
+
+/// Command lines of `tidy`, each with the file that it reads, and checks of what it has stored with their
+/// statuses.
+const CHECKED: &[(&str, &str, &[(&str, u8)])] = &[
+    (
+        FOUR_CELLS,
+        "tidy 7 t.html p.txt c.txt l.txt s.txt",
+        &[
+            ("check 6 t.html c.txt", 0),
+            ("check 5 t.html l.txt", 0),
+            ("check 7 t.html c.txt", 10),
+        ],
+    ),
+    (
+        NESTED,
+        "tidy 12 t.html p.txt c.txt l.txt s.txt --budget 100",
+        &[
+            ("check 10 t.html c.txt --budget 100", 0),
+            ("check 9 t.html l.txt --budget 100", 0),
+        ],
+    ),
+    (
+        TWO,
+        "tidy 12 t.html p.txt c.txt --budget 0",
+        &[("check 12 t.html c.txt --budget 0", 3)],
+    ),
+];
+
+#[test]
+fn a_check_accepts_each_certificate_that_is_stored(rt: HostRuntime) -> Result<(), Failure> {
+    let alloc = rt.alloc();
+    for (file, line, checks) in CHECKED {
+        let mut desk = desk(alloc, file.as_bytes(), &[])?;
+        status_of(&rt, alloc, line, &mut desk)?;
+        for (check, wanted) in *checks {
+            let status = status_of(&rt, alloc, check, &mut desk)?;
+            assert_eq!(rt; status, *wanted, "{line}: {check}");
+        }
+    }
+    Ok(())
+}
+
+/// Budgets up to the count of what there is to search, for both searches.
+const EFFORTS: &[&str] = &[
+    "tidy 7 t.html p.txt --budget 0",
+    "tidy 7 t.html p.txt --budget 1",
+    "tidy 7 t.html p.txt --budget 2",
+    "tidy 7 t.html p.txt --budget 3",
+    "tidy 7 t.html p.txt --budget 4",
+    "tidy 7 t.html p.txt --budget 0 --solver plain",
+    "tidy 7 t.html p.txt --budget 1 --solver plain",
+    "tidy 7 t.html p.txt --budget 2 --solver plain --workers 2",
+    "tidy 7 t.html p.txt --budget 3 --solver plain",
+    "tidy 7 t.html p.txt --budget 4 --solver plain",
+];
+
+#[test]
+fn whatever_found_it_the_page_is_the_same(rt: HostRuntime) -> Result<(), Failure> {
+    let alloc = rt.alloc();
+    for line in EFFORTS {
+        let mut desk = desk(alloc, FOUR_CELLS.as_bytes(), &[])?;
+        match status_of(&rt, alloc, line, &mut desk)? {
+            0 => {
+                let page = IN_SIX.page.map(|page| page.as_bytes());
+                assert_eq!(rt; held(&desk, "p.txt"), page, "{line}");
+                assert_eq!(rt; desk.said(), IN_SIX.message.as_bytes(), "{line}");
+            }
+            status => assert_eq!(rt; status, 3, "{line}"),
+        }
+    }
+    Ok(())
+}
+
+/// The files in the order in which they are stored, the page first.
+const STORED: [&str; 3] = ["p.txt", "c.txt", "l.txt"];
+
+#[test]
+fn files_that_fail_leave_those_before_them(rt: HostRuntime) -> Result<(), Failure> {
+    let alloc = rt.alloc();
+    let line = "tidy 12 t.html p.txt c.txt l.txt s.txt";
+    let mut whole = desk(alloc, TWO.as_bytes(), &[])?;
+    status_of(&rt, alloc, line, &mut whole)?;
+    for call in 0..5u32 {
+        let fail = Fail { call, bytes: 5 };
+        let mut desk = desk(alloc, TWO.as_bytes(), &[fail])?;
+        let status = status_of(&rt, alloc, line, &mut desk)?;
+        assert_eq!(rt; status, if call == 0 { 7 } else { 8 }, "{call}");
+        for (place, name) in STORED.iter().enumerate() {
+            let stored = held(&whole, name).unwrap_or(b"");
+            let wanted = match call as usize {
+                0 => None,
+                failing if place + 1 < failing => Some(stored),
+                failing if place + 1 == failing => Some(&stored[..stored.len().min(5)]),
+                _ => None,
+            };
+            assert_eq!(rt; held(&desk, name), wanted, "{call} {name}");
+        }
+    }
+    Ok(())
+}
+
+#[test]
+fn a_file_that_is_refused_is_told_as_by_a_layout(rt: HostRuntime) -> Result<(), Failure> {
+    let line = "tidy 7 t.html p.txt c.txt l.txt s.txt";
+    check_refused(&rt, line, b"", 5, "bad input: no table at 0\n")?;
+    // The searches are counted on the page that is asked for: 301 of them with one nested table.
+    check_refused(
+        &rt,
+        "tidy 300 t.html p.txt c.txt --budget 100000",
+        NESTED.as_bytes(),
+        6,
+        "limit: reach 30100000\n",
+    )
+}
