@@ -71,9 +71,13 @@ def below(crate, path, names):
         if at.startswith("declared."):
             types.add(declared(of, at, name))
             continue
-        part_of = read_file(of, at)[2]
+        brought, _, part_of = read_file(of, at)
         if name not in part_of:
-            sys.exit(f"{of}/specs/{at} does not define {name}")
+            # A file may give on what it brings in.
+            if name not in brought:
+                sys.exit(f"{of}/specs/{at} does not define {name}")
+            open_ones.append(brought[name])
+            continue
         one = of, at, part_of[name]
         if one not in found:
             found.add(one)

@@ -20,7 +20,7 @@ use Rattle.tl_table.proofs.SizesOpen.{nested_in_table-out, table_size-out}
 use Rattle.tl_table.specs.FewCells.{HasFewCells}
 use Rattle.tl_table.specs.Same.{AreSame, AreSameCell, AreSameContent, AreSameWithin}
 use Rattle.tl_table.specs.Tables.{IsInsideWithin, OpenContent}
-use Rattle.tl_html.specs.Spellable.{IsSpellable, IsSpellableWithin}
+use Rattle.tl_table.specs.Spellable.{IsSpellable, IsSpellableWithin}
 use Rattle.tl_base.proofs.Members.{Contains-none}
 use Rattle.tl_base.proofs.Zips.{AllZip-length}
 use Rattle.tl_columns.specs.Columns.{placed_fields, IsFieldCell, IsCsvTable}
@@ -99,6 +99,30 @@ module _ (all : List Fields) (head : Bool) (floors : List ℕ) (breaking : Break
       (subst (λ (n : ℕ). All (IsPlaced (column_count all) n) (places_of (out-Table table))) (sym is.rows)
       (subst (All (IsPlaced (column_count all) (length all))) (sym lie) (all_placed all even)))
 
+  -- how many cells it has
+  counted : length (out-Table table).cells ≡ field_count all
+  counted = sym (AllZip-length (λ at cell. IsFieldCell head floors breaking at (out-TableCell cell)) (placed_fields all)
+      (out-Table table).cells is.cells) ∙ fields_count all
+
+  -- a file of HTML can spell it
+  pub csv_spellable : IsSpellable breaking table
+  csv_spellable = (
+    1,
+    record {
+      caption = [];
+      body = (out-Table table).cells;
+      split = refl;
+      captioned = tt;
+      in_rows = cells_in_rows head floors breaking (placed_fields all) (out-Table table).cells is.cells;
+      few_rows = omega (arith, is.rows, is.limits.few_rows);
+      few_cells = omega (arith, counted, is.limits.few_cells);
+      filled = subst (λ (places : List Place). All (IsFilledToLeft places) places) (sym lie) (slots_filled all);
+      words = cells_spellable head floors breaking (placed_fields all) (out-Table table).cells is.cells
+          (are_fields all is.well_formed small.size) (are_plain_fields all is.well_formed);
+      inner = subst (AllByRecursion (IsSpellableWithin 0 breaking)) (sym (tables_none (out-Table table).cells texts)) tt;
+    },
+  )
+
   -- the table is sound: the limit of its size is that of its records
   pub csv_sound : All (λ floor. floor ≤ MAX_PAGE_WIDTH) floors → IsSound table
   csv_sound narrow = record {
@@ -121,13 +145,11 @@ module _ (all : List Fields) (head : Bool) (floors : List ℕ) (breaking : Break
     };
     few_tables = omega (arith, is.number, none_inside);
     size = omega (arith, table_small, small.size);
+    breaking = breaking;
+    spellable = csv_spellable;
   }
 
-  -- ---- how many cells
-
-  counted : length (out-Table table).cells ≡ field_count all
-  counted = sym (AllZip-length (λ at cell. IsFieldCell head floors breaking at (out-TableCell cell)) (placed_fields all)
-      (out-Table table).cells is.cells) ∙ fields_count all
+  -- ---- no table is nested in it
 
   none_within : (depth : ℕ) (inside : Table) → IsInsideWithin depth table inside → ⊥
   none_within zero inside within = within
@@ -142,26 +164,6 @@ module _ (all : List Fields) (head : Bool) (floors : List ℕ) (breaking : Break
         (omega (arith, counted, is.limits.few_cells))
     | inr (depth, within) ↦ absurd (none_within depth inside within)
   ]
-
-  -- ---- a file of HTML can spell it
-
-  pub csv_spellable : IsSpellable breaking table
-  csv_spellable = (
-    1,
-    record {
-      caption = [];
-      body = (out-Table table).cells;
-      split = refl;
-      captioned = tt;
-      in_rows = cells_in_rows head floors breaking (placed_fields all) (out-Table table).cells is.cells;
-      few_rows = omega (arith, is.rows, is.limits.few_rows);
-      few_cells = omega (arith, counted, is.limits.few_cells);
-      filled = subst (λ (places : List Place). All (IsFilledToLeft places) places) (sym lie) (slots_filled all);
-      words = cells_spellable head floors breaking (placed_fields all) (out-Table table).cells is.cells
-          (are_fields all is.well_formed small.size) (are_plain_fields all is.well_formed);
-      inner = subst (AllByRecursion (IsSpellableWithin 0 breaking)) (sym (tables_none (out-Table table).cells texts)) tt;
-    },
-  )
 
   -- ---- it is the same as itself, as no table is nested in it
 

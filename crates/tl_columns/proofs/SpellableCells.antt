@@ -12,7 +12,7 @@ use Rattle.tl_text.specs.Words.{words_of}
 use Rattle.tl_text.proofs.WordParagraphs.{words_are_paragraph}
 use Rattle.tl_tree.specs.Sound.{IsPlainAtom}
 use Rattle.tl_table.specs.declared.cell.TableCell.{TableCell, out-TableCell}
-use Rattle.tl_html.specs.Spellable.{AreSpellableBlocks, IsRowCell, IsSpellableBlock}
+use Rattle.tl_table.specs.Spellable.{AreSpellableBlocks, IsRowCell, IsSpellableBlock}
 use Rattle.tl_columns.specs.Columns.{blocks_of_words, placed_fields, PlacedField}
 use Rattle.tl_columns.specs.Records.{Fields, column_count}
 use Rattle.tl_columns.specs.Refused.{has_control, AreWellFormed, IsWellFormed}

@@ -7,7 +7,7 @@ ghost use Rattle.tl_base.specs.declared.limits.TheConstants.{MAX_FILE_BYTES, MAX
 ghost use Rattle.tl_table.specs.declared.cell.Table.{Table};
 ghost use Rattle.tl_table.specs.FewCells.{HasFewCells};
 ghost use Rattle.tl_table.specs.Sound.{table_size, IsSound};
-ghost use Rattle.tl_html.specs.Spellable.{IsSpellable};
+ghost use Rattle.tl_table.specs.Spellable.{IsSpellable};
 ghost use Rattle.tl_columns.specs.declared.error.CsvError.{CsvError};
 ghost use Rattle.tl_columns.specs.declared.error.CsvError.TheVariants.{Memory};
 ghost use Rattle.tl_columns.specs.Columns.{IsCsvTable};

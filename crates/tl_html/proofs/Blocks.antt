@@ -35,7 +35,7 @@ use Rattle.tl_html.specs.Html.{paragraph_html, HtmlFlow, HtmlCell, blocks_html, 
 use Rattle.tl_html.specs.Html.{cell_of}
 use Rattle.tl_html.specs.Html.{html_of}
 use Rattle.tl_html.specs.Html as html
-use Rattle.tl_html.specs.Spellable.{AreSpellableBlocks, IsSpellableBlock}
+use Rattle.tl_table.specs.Spellable.{AreSpellableBlocks, IsSpellableBlock}
 use Rattle.tl_html.proofs.Items.{Item, item_text, items_text, IsItem}
 use Rattle.tl_html.proofs.PageTags as page_tags
 use Rattle.tl_html.proofs.PageWords.{paragraph_items, paragraph_written, clusters_items, paragraph_is_items, paragraph_marks}

@@ -36,7 +36,7 @@ use Rattle.tl_html.specs.declared.filled.Filled.{Filled}
 use Rattle.tl_html.specs.Html.{HtmlCell, fill, blocks_html, block_page, table_page, cell_page, flow_of, cell_of, cell_html}
 use Rattle.tl_html.specs.Html.{is_caption, line}
 use Rattle.tl_html.specs.Html as html
-use Rattle.tl_html.specs.Spellable.{AreSpellableBlocks}
+use Rattle.tl_table.specs.Spellable.{AreSpellableBlocks}
 use Rattle.tl_html.proofs.Items.{Item, item_text, items_text, IsItem}
 use Rattle.tl_html.proofs.PageTags.{numbers, attributes_text, plain_start, head_start, plain_end, head_end}
 use Rattle.tl_html.proofs.PageTags as page_tags

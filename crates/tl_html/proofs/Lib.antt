@@ -13,6 +13,3 @@ pub mod TableParts
 pub mod TableAgain
 pub mod ReadsBack
 pub mod Fitting
-pub mod FormedTables
-pub mod AlikeTables
-mod Unspellable

@@ -19,7 +19,7 @@ use Rattle.tl_html.specs.Alike.{AreAlikeWithin}
 use Rattle.tl_html.specs.Html.{Block, HtmlCell, block_page, table_page, cell_page, html_of}
 use Rattle.tl_html.specs.Laws.{PageReadsBack}
 use Rattle.tl_html.specs.Readable.{HasColumnsWithin}
-use Rattle.tl_html.specs.Spellable.{IsSpellableWithin}
+use Rattle.tl_table.specs.Spellable.{IsSpellableWithin}
 use Rattle.tl_html.proofs.Items.{Item, IsItem, kind_of, items_spelt}
 use Rattle.tl_html.proofs.PageTags as page_tags
 use Rattle.tl_html.proofs.PageWords.{grammar_kinds, kinds_append}
@@ -64,8 +64,9 @@ kinds_are [] = refl
 kinds_are (t ∷ tokens) = ap (λ (ks : Kinds). class_of t.kind ∷ ks) (kinds_are tokens)
 
 pub reads_back : PageReadsBack
-reads_back table layout bytes page breaking sound spelt columns =
-    let t = within_back sound.depth spelt.0 columns.0 breaking table layout 0 sound.sound spelt.1 columns.1 in
+reads_back table layout bytes page sound columns =
+    let t = within_back sound.depth sound.spellable.0 columns.0 sound.breaking table layout 0 sound.sound sound.spellable.1
+    columns.1 in
     let items : List Item = t.prefix ++ last_item ∷ [] in
     let all : AllByRecursion IsItem items = AllByRecursion-append IsItem t.prefix (last_item ∷ []) t.are
     ((page_tags.table_end, (refl, tt)), tt) in

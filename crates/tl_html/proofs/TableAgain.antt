@@ -51,7 +51,7 @@ use Rattle.tl_html.specs.Html.{columns_html, row_html}
 use Rattle.tl_html.specs.Html.{rows_html, line}
 use Rattle.tl_html.specs.Html as html
 use Rattle.tl_html.specs.Readable.{HasColumnsBy}
-use Rattle.tl_html.specs.Spellable.{AreSpellableBlocks, IsRowCell, IsSpellableBy}
+use Rattle.tl_table.specs.Spellable.{AreSpellableBlocks, IsRowCell, IsSpellableBy}
 use Rattle.tl_html.proofs.Items.{Item, item_text, items_text, IsItem}
 use Rattle.tl_html.proofs.PageTags as page_tags
 use Rattle.tl_html.proofs.PageWords.{grammar_kinds, kinds_append, StandFor}

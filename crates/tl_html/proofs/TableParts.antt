@@ -38,7 +38,7 @@ use Rattle.tl_html.specs.Html.{HtmlCell, fill, blocks_html, flow_of, cell_of, ce
 use Rattle.tl_html.specs.Html.{column_html}
 use Rattle.tl_html.specs.Html.{columns_html, row_html, line}
 use Rattle.tl_html.specs.Html as html
-use Rattle.tl_html.specs.Spellable.{AreCaption, AreSpellableBlocks, IsCaption}
+use Rattle.tl_table.specs.Spellable.{AreCaption, AreSpellableBlocks, IsCaption}
 use Rattle.tl_html.proofs.Items.{Item, item_text, items_text, IsItem}
 use Rattle.tl_html.proofs.PageTags.{column_tag}
 use Rattle.tl_html.proofs.PageTags as page_tags

@@ -19,7 +19,7 @@ use Rattle.tl_table.specs.declared.cell.TableCell.{TableCell}
 use Rattle.tl_table.specs.Tables.{OpenTable}
 use Rattle.tl_table.specs.Formed.{lowered}
 use Rattle.tl_table.specs.Sound.{ComesBefore, IsSoundBy, place_of, places_of}
-use Rattle.tl_html.specs.Spellable.{AreCaption, IsSpellableBy}
+use Rattle.tl_table.specs.Spellable.{AreCaption, IsSpellableBy}
 use Rattle.tl_html.proofs.GridAgain.{IsGrid}
 use Rattle.tl_html.proofs.Cells.{joined}
 

@@ -1,6 +1,5 @@
 pub mod Html
 pub mod Alike
-pub mod Spellable
 pub mod Readable
 pub mod Laws
 pub mod inner

@@ -13,7 +13,6 @@ use Rattle.tl_table.specs.Spells.{Spells}
 use Rattle.tl_table.specs.Tables.{OpenTable, inner_tables}
 use Rattle.tl_html.specs.Alike.{AreAlike}
 use Rattle.tl_html.specs.Html.{html_of}
-use Rattle.tl_html.specs.Spellable.{IsSpellable}
 
 -- a width for each column, and a layout for each table nested directly, where `has` says so of each
 pub record HasColumnsBy (has : Table → Layout → Type 0) (table : OpenTable) (layout : OpenLayout) : Type 0 where
@@ -37,11 +36,9 @@ IsHtmlPage table layout bytes = IsUtf8 bytes × (chars bytes ≡ html_of table l
 abbrev pub SpellsAlike : List ℕ → Breaking → Table → Type 0
 SpellsAlike bytes breaking table = (other : Table) × Spells bytes breaking other × AreAlike table other
 
--- if a file can spell the sound table by a breaking, and the layout has a width for each column, the bytes spell it by that
--- breaking
+-- the bytes spell the table again, if it is sound and the layout has a width for each column: by whatever breaking it is sound
 abbrev pub ReadsBack : Table → Layout → List ℕ → Type 0
-ReadsBack table layout bytes = (breaking : Breaking) → IsSound table → IsSpellable breaking table → HasColumns table layout →
-    SpellsAlike bytes breaking table
+ReadsBack table layout bytes = (sound : IsSound table) → HasColumns table layout → SpellsAlike bytes sound.breaking table
 
 -- whatever sound tree becomes the table, and by whatever breaking, the bytes spell the table again by that breaking, if
 -- the layout has a width for each column

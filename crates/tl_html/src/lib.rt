@@ -12,8 +12,5 @@ mod table;
 #[cfg(test)]
 mod tests;
 
-pub use laws::{
-    a_fitting_layout_has_columns, alike_tables_are_spellable, formed_tables_are_spellable,
-    page_reads_back,
-};
+pub use laws::{a_fitting_layout_has_columns, page_reads_back};
 pub use table::html;

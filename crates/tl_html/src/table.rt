@@ -9,12 +9,12 @@ ghost use Rattle.tl_html.specs.inner.Flows.{Flowed, IsFilled};
 
 use crate::builder::TextBuilder;
 use crate::filled::Filled;
-use crate::laws::{formed_tables_are_spellable, page_reads_back};
+use crate::laws::page_reads_back;
 use crate::paragraph::write_paragraph;
 use crate::row::write_row;
 use std::alloc::{AllocError, Global};
 use tl_base::List;
-use tl_table::{Content, Kind, Layout, Table, TableCell};
+use tl_table::{Content, Kind, Layout, Table, TableCell, formed_tables_are_sound};
 
 /// Appends a block of a cell. Of the layouts of nested tables `taken` were taken before it; returns
 /// how many are taken after it.
@@ -212,12 +212,12 @@ fn write_table(
 pub fn html(alloc: Global, table: &Table, layout: &Layout) -> Result<List<u8>, AllocError>
     ensures bytes { IfOk result (λ bytes. bytes ≡ html_bytes table.now layout.now) }
     ensures page { IfOk result (IsHtmlPage table.now layout.now) }
-    // They spell the table again: each sound one that a file can spell, and so each that is read.
+    // They spell each sound table again, and so each that is read.
     ensures reads_back { IfOk result (ReadsBack table.now layout.now) }
     ensures reads_formed { IfOk result (ReadsBackAsFormed table.now layout.now) }
 {
     page_reads_back();
-    formed_tables_are_spellable();
+    formed_tables_are_sound();
     let mut out = TextBuilder::new(alloc);
     write_table(alloc, &mut out, table, layout)?;
     Ok(out.into_bytes())

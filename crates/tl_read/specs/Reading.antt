@@ -17,7 +17,7 @@ use Rattle.tl_table.specs.FewCells.{HasFewCells}
 use Rattle.tl_table.specs.Same.{AreSame}
 use Rattle.tl_table.specs.Sound.{IsSound}
 use Rattle.tl_table.specs.Spells.{Spells}
-use Rattle.tl_html.specs.Spellable.{IsSpellable}
+use Rattle.tl_table.specs.Spellable.{IsSpellable}
 use Rattle.tl_columns.specs.declared.error.CsvError.{CsvError}
 use Rattle.tl_columns.specs.Columns.{IsCsvTable}
 use Rattle.tl_columns.specs.Records.{csv_records}

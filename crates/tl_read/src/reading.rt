@@ -19,7 +19,6 @@ use crate::refusal::{Limit, Refusal, csv_refusal, form_refusal, token_refusal, t
 use std::alloc::{AllocError, Global};
 use tl_base::{Breaking, MAX_FILE_BYTES};
 use tl_columns::from_csv;
-use tl_html::formed_tables_are_spellable;
 use tl_table::{Table, formed_has_few_cells, table};
 use tl_token::{Token, tokens};
 use tl_tree::{TableNode, tree};
@@ -63,7 +62,6 @@ fn read_tree(alloc: Global, node: &TableNode, breaking: Breaking) -> Result<Read
     ensures spellable { IfOk result (IsSpellableReading (Html breaking)) }
 {
     formed_has_few_cells();
-    formed_tables_are_spellable();
     match table(alloc, node, breaking) {
         Ok(table) => Ok(Reading::Table(table)),
         Err(error) => refused(form_refusal(error)),

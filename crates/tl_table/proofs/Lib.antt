@@ -17,6 +17,7 @@ pub mod Rows
 pub mod SizesOpen
 pub mod Sorted
 pub mod SoundParts
+pub mod SoundBy
 pub mod Widths
 pub mod TreeParts
 pub mod SoundNodes
@@ -24,6 +25,7 @@ pub mod Becoming
 pub mod Gridless
 pub mod Writing
 pub mod Formed
+pub mod SpellableTables
 pub mod SpeltBlocks
 pub mod SoundFormed
 pub mod OneTable
@@ -39,6 +41,7 @@ pub mod TableNumbers
 pub mod InnerNumbers
 pub mod NumberLemmas
 mod SameExamples
+mod Unsound
 pub mod SameTables
 pub mod SameFits
 pub mod SameChains

@@ -1,4 +1,5 @@
--- What a sound tree becomes is a sound table: no deeper, with as many tables and no greater size than the tree.
+-- What a sound tree becomes is a sound table: no deeper, with as many tables and no greater size than the tree; and a file can
+-- spell it by the same breaking.
 use Rattle.std.proofs.Common.{◌≡◌, ◌∙◌, ℕ, zero, suc, ◌+◌, ◌-◌, ◌≤◌, max, Option, Some, None, List, [], ◌∷◌, ◌++◌, map, sum_by}
 use Rattle.std.proofs.Common.{refl, sym, ap, subst}
 use Rattle.std.proofs.Common.{append_assoc, arith}
@@ -36,7 +37,7 @@ use Rattle.tl_table.specs.Refused.{tables_in_flow, tables_in_block, numbered_sha
 use Rattle.tl_table.proofs.SizesOpen.{table_size-out, cell_size-out, content_size-out, open_size}
 use Rattle.tl_table.proofs.SoundNodes.{open_outline, rows_outline, groups_outline, block_outline-out, cell_outline-out}
 use Rattle.tl_table.proofs.SoundNodes.{group_outline-out, outline-out}
-use Rattle.tl_table.proofs.SoundNodes.{sound_each, cell_flow, group_rows, table_groups, table_caption}
+use Rattle.tl_table.proofs.SoundNodes.{flat_groups, sound_each, cell_flow, table_groups, table_caption}
 use Rattle.tl_table.proofs.SoundParts.{each_joined, joined-each}
 use Rattle.tl_table.proofs.Laid.{AreLaid, cells_laid}
 use Rattle.tl_table.proofs.Orders.{apart_moved}
@@ -48,6 +49,7 @@ use Rattle.std.proofs.Common.{length}
 use Rattle.tl_table.specs.Sound.{IsSpeltBlock, numbers_inside, count_inside}
 use Rattle.tl_table.proofs.Numbered.{AreNumbered, tables_of_blocks, numbered_split, tables_numbered}
 use Rattle.tl_table.proofs.TreeParts.{tables_in_open, tables_in_block-out}
+use Rattle.tl_table.proofs.SpellableTables.{becomes_spellable}
 use Rattle.tl_table.proofs.SpeltBlocks.{spelt-caption, spelt-cells}
 use Rattle.tl_table.proofs.SoundCounts.{Counts, Numbers, within_counts, within_numbers, level_numbered}
 
@@ -75,23 +77,6 @@ narrow_caption forms breaking cols (Some flow) (one ∷ cells) become = (
   subst (AllByRecursion (λ each. (out-TableCell each).least ≤ MAX_PAGE_WIDTH)) (sym become.1)
       tt,
 )
-
--- the outline of a table's cells is sound where the table's is
-pub flat_rows : (rows : List (List CellNode)) → AllByRecursion (λ cells. AreSound (cells_outline cells)) rows →
-    AllByRecursion (λ node. AreSound (cell_outline node)) (flat_map (λ (cells : List CellNode). cells) rows)
-flat_rows [] sound = tt
-flat_rows (cells ∷ rows) sound =
-    AllByRecursion-append (λ node. AreSound (cell_outline node)) cells (flat_map (λ (each : List CellNode). each) rows)
-    (sound_each cell_outline cells sound.0)
-    (flat_rows rows sound.1)
-
-pub flat_groups : (groups : List GroupNode) → AllByRecursion (λ g. AreSound (group_outline g)) groups →
-    AllByRecursion (λ node. AreSound (cell_outline node)) (flat_map (λ g. cells_of_group (out-GroupNode g)) groups)
-flat_groups [] sound = tt
-flat_groups (g ∷ groups) sound =
-    AllByRecursion-append (λ node. AreSound (cell_outline node)) (cells_of_group (out-GroupNode g))
-    (flat_map (λ each. cells_of_group (out-GroupNode each)) groups)
-    (flat_rows (out-GroupNode g).rows (group_rows g sound.0)) (flat_groups groups sound.1)
 
 narrow_cells : (forms : TableNode → Table → Type 0) (breaking : Breaking) (nodes : List CellNode) (cells : List TableCell) →
     AllByRecursion (λ node. AreSound (cell_outline node)) nodes → BecomeCells forms breaking nodes cells →
@@ -412,4 +397,6 @@ becomes_sound breaking node made tree becomes = record {
     (subst (AreNumbered 0) (tables_of_blocks node) (tables_numbered node tree)).0,
   );
   size = omega (arith, within_small becomes.0 breaking node made becomes.1, tree.sound.size);
+  breaking = breaking;
+  spellable = becomes_spellable breaking node made tree becomes;
 }

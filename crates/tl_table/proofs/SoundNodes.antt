@@ -5,6 +5,7 @@ use Rattle.std.specs.List.{AllByRecursion, flat_map}
 use Rattle.std.proofs.lemmas.List.Concat.{flat_map-cons}
 use Rattle.std.proofs.lemmas.List.Sums.{sum_by-cons, sum_by-append}
 use Rattle.tl_base.specs.declared.limits.TheConstants.{MAX_FILE_BYTES}
+use Rattle.tl_base.proofs.Members.{AllByRecursion-append}
 use Rattle.tl_tree.specs.Outline.{blocks_outline, caption_outline, cells_outline}
 use Rattle.tl_grid.specs.Shapes.{IsSpan, AllSpans}
 use Rattle.tl_grid.specs.Forming.{cells_in, row_count, cell_count}
@@ -17,7 +18,7 @@ use Rattle.tl_tree.specs.declared.node.CellNode.{CellNode, out-CellNode, roll-ou
 use Rattle.tl_tree.specs.declared.node.GroupNode.{GroupNode, out-GroupNode, roll-out-GroupNode}
 use Rattle.tl_tree.specs.declared.node.TableNode.{TableNode, out-TableNode, roll-out-TableNode}
 use Rattle.tl_tree.proofs.Outlines.{paragraph_made, nested_made, cell_made, group_made, table_made}
-use Rattle.tl_table.specs.Formed.{OpenBlock, span_of, group_shape, shape_of}
+use Rattle.tl_table.specs.Formed.{OpenBlock, span_of, cells_of_group, group_shape, shape_of}
 
 -- ---- the outlines of the parts by what they hold
 
@@ -99,6 +100,23 @@ rows_each (cells ∷ rows) sound =
 pub group_rows : (node : GroupNode) → AreSound (group_outline node) →
     AllByRecursion (λ cells. AreSound (cells_outline cells)) (out-GroupNode node).rows
 group_rows node sound = rows_each (out-GroupNode node).rows (sound_tail _ _ (subst AreSound (group_outline-out node) sound))
+
+-- the outline of a table's cells is sound where the table's is
+pub flat_rows : (rows : List (List CellNode)) → AllByRecursion (λ cells. AreSound (cells_outline cells)) rows →
+    AllByRecursion (λ node. AreSound (cell_outline node)) (flat_map (λ (cells : List CellNode). cells) rows)
+flat_rows [] sound = tt
+flat_rows (cells ∷ rows) sound =
+    AllByRecursion-append (λ node. AreSound (cell_outline node)) cells (flat_map (λ (each : List CellNode). each) rows)
+    (sound_each cell_outline cells sound.0)
+    (flat_rows rows sound.1)
+
+pub flat_groups : (groups : List GroupNode) → AllByRecursion (λ g. AreSound (group_outline g)) groups →
+    AllByRecursion (λ node. AreSound (cell_outline node)) (flat_map (λ g. cells_of_group (out-GroupNode g)) groups)
+flat_groups [] sound = tt
+flat_groups (g ∷ groups) sound =
+    AllByRecursion-append (λ node. AreSound (cell_outline node)) (cells_of_group (out-GroupNode g))
+    (flat_map (λ each. cells_of_group (out-GroupNode each)) groups)
+    (flat_rows (out-GroupNode g).rows (group_rows g sound.0)) (flat_groups groups sound.1)
 
 table_rest : (node : TableNode) → AreSound (outline node) → AreSound (caption_outline (out-TableNode node).caption)
     × AreSound (columns (out-TableNode node).columns ∷ (groups_outline (out-TableNode node).groups ++ table_end ∷ []))

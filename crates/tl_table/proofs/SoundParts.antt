@@ -4,13 +4,14 @@ use Rattle.std.specs.List.{AllByRecursion, All, flat_map}
 use Rattle.std.proofs.lemmas.List.Concat.{flat_map-cons}
 use Rattle.std.proofs.lemmas.List.Sums.{sum_by-cons}
 use Rattle.std.proofs.lemmas.List.Elements.{recursion_from_All, All-from_recursion, All-get_or}
-use Rattle.tl_base.specs.declared.limits.TheConstants.{MAX_DEPTH, MAX_FILE_BYTES, MAX_PAGE_WIDTH, MAX_TABLES}
+use Rattle.tl_base.specs.declared.limits.TheConstants.{MAX_DEPTH, MAX_PAGE_WIDTH}
 use Rattle.tl_base.proofs.Members.{AllByRecursion-append, AllByRecursion-weaker}
 use Rattle.tl_table.specs.declared.cell.Content.{out-Content}
 use Rattle.tl_table.specs.declared.cell.Content.TheOpen as open_content
 use Rattle.tl_table.specs.declared.cell.Table.{Table, out-Table}
 use Rattle.tl_table.specs.declared.cell.TableCell.{TableCell, out-TableCell}
 use Rattle.tl_table.specs.Tables.{OpenContent, tables_of, tables_in, inner_tables}
+use Rattle.tl_table.specs.Spellable.{IsSpellableWithin}
 use Rattle.tl_table.specs.Sound.{IsSoundWithin, IsSound, table_size, cell_size, content_size, nested_in_table}
 use Rattle.tl_table.specs.Sound.{IsSoundBlock, IsSoundCell}
 use Rattle.tl_table.proofs.InnerNumbers.{last_inner}
@@ -71,28 +72,38 @@ small_in_table table = subst (λ n. AllByRecursion (λ inner. table_size inner �
     (sym (table_size-out table))
     (small_joined table_size (λ cell. tables_in (out-TableCell cell)) cell_size (out-Table table).cells small_in_cell)
 
-pub sound_inner : (table : Table) (depth : ℕ) → depth ≤ MAX_DEPTH → IsSoundWithin depth table →
-    (out-Table table).number + nested_in_table table < MAX_TABLES →
-    table_size table ≤ MAX_FILE_BYTES + 1 → AllByRecursion IsSound (inner_tables (out-Table table))
-sound_inner table zero shallow sound few size = absurd sound
-sound_inner table (suc depth) shallow sound few size =
-    AllByRecursion-weaker (λ inner. IsSoundWithin depth inner × ((table_size inner ≤ table_size table) ×
-    ((out-Table inner).number + nested_in_table inner ≤ (out-Table table).number + nested_in_table table)))
-    IsSound (inner_tables (out-Table table))
-    (λ inner all. record {
-      depth = depth;
-      shallow = omega arith;
-      sound = all.0;
-      few_tables = omega (arith, all.1.1);
-      size =
-          omega (arith, all.1.0);
-    })
-    (both_each (IsSoundWithin depth) (λ inner. (table_size inner ≤ table_size table) ×
-    ((out-Table inner).number + nested_in_table inner ≤ (out-Table table).number + nested_in_table table))
-    (inner_tables (out-Table table)) sound.inner
-    (both_each (λ inner. table_size inner ≤ table_size table)
-    (λ inner. (out-Table inner).number + nested_in_table inner ≤ (out-Table table).number + nested_in_table table)
-    (inner_tables (out-Table table)) (small_in_table table) (last_inner depth table sound)))
+-- it holds no more than the table, and has no greater number inside
+abbrev IsNoMore : Table → Table → Type 0
+IsNoMore table inner = (table_size inner ≤ table_size table) ×
+    ((out-Table inner).number + nested_in_table inner ≤ (out-Table table).number + nested_in_table table)
+
+-- the tables nested directly in a sound table are sound
+pub sound_inner : (table : Table) → IsSound table → AllByRecursion IsSound (inner_tables (out-Table table))
+sound_inner table sound = by_depth sound.depth sound.shallow sound.sound sound.spellable.0 sound.spellable.1
+  where
+    by_depth : (depth : ℕ) → depth ≤ MAX_DEPTH → IsSoundWithin depth table → (deep : ℕ) →
+        IsSpellableWithin deep sound.breaking table → AllByRecursion IsSound (inner_tables (out-Table table))
+    by_depth zero shallow is deep spelt = absurd is
+    by_depth (suc depth) shallow is zero spelt = absurd spelt
+    by_depth (suc depth) shallow is (suc deep) spelt =
+        AllByRecursion-weaker
+        (λ inner. IsSoundWithin depth inner × (IsSpellableWithin deep sound.breaking inner × IsNoMore table inner))
+        IsSound (inner_tables (out-Table table))
+        (λ inner all. record {
+          depth = depth;
+          shallow = omega (arith, shallow);
+          sound = all.0;
+          few_tables = omega (arith, all.1.1.1, sound.few_tables);
+          size = omega (arith, all.1.1.0, sound.size);
+          breaking = sound.breaking;
+          spellable = (deep, all.1.0);
+        })
+        (both_each (IsSoundWithin depth) (λ inner. IsSpellableWithin deep sound.breaking inner × IsNoMore table inner)
+        (inner_tables (out-Table table)) is.inner
+        (both_each (IsSpellableWithin deep sound.breaking) (IsNoMore table) (inner_tables (out-Table table)) spelt.inner
+        (both_each (λ inner. table_size inner ≤ table_size table)
+        (λ inner. (out-Table inner).number + nested_in_table inner ≤ (out-Table table).number + nested_in_table table)
+        (inner_tables (out-Table table)) (small_in_table table) (last_inner depth table is))))
 
 narrow_of : (table : Table) (depth : ℕ) → IsSoundWithin depth table →
     All (λ cell. (out-TableCell cell).least ≤ MAX_PAGE_WIDTH) (out-Table table).cells
@@ -113,7 +124,7 @@ sound_cells table sound =
     (recursion_from_All (λ cell. (out-TableCell cell).least ≤ MAX_PAGE_WIDTH) (out-Table table).cells
     (narrow_of table sound.depth sound.sound))
     (each_joined IsSound (λ cell. tables_in (out-TableCell cell)) (out-Table table).cells
-    (sound_inner table sound.depth sound.shallow sound.sound sound.few_tables sound.size)))
+    (sound_inner table sound)))
 
 -- each block of a sound cell is sound
 pub sound_blocks : (cell : TableCell) → IsSoundCell (out-TableCell cell) →

@@ -291,7 +291,7 @@ sound_inside zero holder one is within = absurd within
 sound_inside (suc depth) holder one is within =
     further (All-contains IsSound (inner_tables (out-Table holder)) within.0
     (All-from_recursion IsSound (inner_tables (out-Table holder))
-    (sound_inner holder is.depth is.shallow is.sound is.few_tables is.size)) within.1)
+    (sound_inner holder is)) within.1)
     within.2 (sound_inside depth within.0 one)
   where
     further : IsSound within.0 → (within.0 ≡ one) ⊎ IsInsideWithin depth within.0 one →

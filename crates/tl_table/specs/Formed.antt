@@ -28,8 +28,7 @@ use Rattle.tl_table.specs.declared.cell.Kind.{Kind}
 use Rattle.tl_table.specs.declared.cell.Kind.TheVariants as kinds
 use Rattle.tl_table.specs.declared.cell.Table.{Table, out-Table}
 use Rattle.tl_table.specs.declared.cell.TableCell.{TableCell, out-TableCell}
-use Rattle.tl_table.specs.Tables.{OpenTable, OpenCell, OpenContent}
-use Rattle.tl_table.specs.Sound.{ComesBefore, place_of, places_of}
+use Rattle.tl_table.specs.Tables.{OpenTable, OpenCell, OpenContent, ComesBefore, place_of, places_of}
 
 -- ---- a tree one level at a time
 

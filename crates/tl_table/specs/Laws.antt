@@ -10,10 +10,12 @@ use Rattle.tl_tree.specs.declared.node.TableNode.{TableNode}
 use Rattle.tl_table.specs.declared.cell.Table.{Table, out-Table}
 use Rattle.tl_table.specs.declared.layout.Layout.{Layout}
 use Rattle.tl_table.specs.Chains.{IsChain}
+use Rattle.tl_table.specs.Formed.{Becomes}
 use Rattle.tl_table.specs.Layouts.{Fits}
 use Rattle.tl_table.specs.Refused.{HasSomeGrid, IsFirstWithoutGrid, numbered_shapes}
 use Rattle.tl_table.specs.Same.{AreSame}
 use Rattle.tl_table.specs.Sound.{IsSound, nested_in_table}
+use Rattle.tl_table.specs.Spellable.{IsSpellable}
 use Rattle.tl_table.specs.Spells.{Spells}
 use Rattle.tl_table.specs.Tables.{IsAmong}
 
@@ -40,3 +42,8 @@ EachNumberIsOfOneTable = (table : Table) → IsSound table →
     (one : Table) × IsAmong table one × ((out-Table one).number ≡ n))
     × ((one other : Table) → IsAmong table one → IsAmong table other →
     (out-Table one).number ≡ (out-Table other).number → one ≡ other)
+
+-- each table that a sound tree becomes is sound, and a file can spell it by the same breaking
+abbrev pub FormedTablesAreSound : Type 0
+FormedTablesAreSound = (breaking : Breaking) (node : TableNode) (table : Table) → IsSoundTree node →
+    Becomes breaking node table → IsSound table × IsSpellable breaking table

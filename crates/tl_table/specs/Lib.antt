@@ -2,8 +2,9 @@ pub mod Tables
 pub mod Layouts
 pub mod Least
 pub mod Chains
-pub mod Sound
 pub mod Formed
+pub mod Spellable
+pub mod Sound
 pub mod Refused
 pub mod Same
 pub mod Numbered

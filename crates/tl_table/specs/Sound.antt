@@ -1,11 +1,11 @@
--- When a table is sound: what `table` gives, and what every call that takes a table may count on. Its grid is one of
--- the HTML Standard's, "Forming a table", in which no two cells share a slot.
-use Rattle.std.specs.Prelude.{◌≡◌, ℕ, zero, suc, ◌+◌, ◌<◌, ◌≤◌, ◌⊎◌, List, [], ◌∷◌, map, sum_by}
+-- When a table is sound: what `table` and `from_csv` give, and what every call that takes a table may count on. Its grid is
+-- one of the HTML Standard's, "Forming a table", in which no two cells share a slot, and a file can spell it.
+use Rattle.std.specs.Prelude.{ℕ, zero, suc, ◌+◌, ◌<◌, ◌≤◌, List, [], ◌∷◌, sum_by}
 use Rattle.std.specs.List.{All, AllPairs, AllByRecursion, flat_map, range_with_len}
 use Rattle.std.specs.List.Sorted.{IsPermutation}
+use Rattle.tl_base.specs.declared.breaking.Breaking.{Breaking}
 use Rattle.tl_base.specs.declared.limits.TheConstants.{MAX_COLUMNS, MAX_DEPTH, MAX_FILE_BYTES, MAX_PAGE_WIDTH, MAX_ROWS}
 use Rattle.tl_base.specs.declared.limits.TheConstants.{MAX_TABLES}
-use Rattle.tl_grid.specs.declared.shape.Place.{Place}
 use Rattle.tl_grid.specs.Dropping.{IsPlaced}
 use Rattle.tl_grid.specs.Slots.{AreApart, HasAnchorInColumn, HasAnchorInRow}
 use Rattle.tl_text.specs.Paragraph.{IsParagraph, atom_size}
@@ -13,7 +13,9 @@ use Rattle.tl_table.specs.declared.cell.Content.TheOpen as open_content
 use Rattle.tl_table.specs.declared.cell.Table.{Table, out-Table, fold-Table}
 use Rattle.tl_table.specs.declared.cell.TableCell.{TableCell, out-TableCell, fold-TableCell}
 use Rattle.tl_table.specs.declared.cell.Content.{Content, fold-Content, out-Content}
+use Rattle.tl_table.specs.Spellable.{IsSpellable}
 use Rattle.tl_table.specs.Tables.{OpenCell, OpenContent, OpenTable, inner_tables, tables_in, tables_of}
+pub use Rattle.tl_table.specs.Tables.{ComesBefore, place_of, places_of}
 
 -- ---- how much a table holds, by a fold over it
 
@@ -106,18 +108,6 @@ count_inside table = sum_by nested_in_cell table.cells
 
 -- ---- soundness
 
--- where the cell lies
-abbrev pub place_of : TableCell → Place
-place_of cell = (out-TableCell cell).place
-
--- where the cells of a table lie, in their order
-abbrev pub places_of : OpenTable → List Place
-places_of table = map place_of table.cells
-
--- the first comes before the second in the order by top, then left
-abbrev pub ComesBefore : Place → Place → Type 0
-ComesBefore first second = (first.top < second.top) ⊎ ((first.top ≡ second.top) × (first.left < second.left))
-
 -- a block that is a paragraph has units or breaks, each unit with its text
 abbrev pub IsSpeltBlock : OpenContent → Type 0
 IsSpeltBlock (open_content.Para paragraph) = IsParagraph paragraph
@@ -145,7 +135,7 @@ IsSoundWithin zero table = ⊥
 IsSoundWithin (suc depth) table = IsSoundBy (IsSoundWithin depth) (out-Table table)
 
 -- a sound table within the limits of depth, of tables and of a file's size: each cell counts beside the bytes of its text,
--- and in a file of CSV one cell has no separator
+-- and in a file of CSV one cell has no separator. A file can spell it, by some breaking
 pub record IsSound (table : Table) : Type 0 where
   pub depth : ℕ
   pub shallow : depth ≤ MAX_DEPTH
@@ -153,6 +143,8 @@ pub record IsSound (table : Table) : Type 0 where
   -- the greatest number inside
   pub few_tables : (out-Table table).number + nested_in_table table < MAX_TABLES
   pub size : table_size table ≤ MAX_FILE_BYTES + 1
+  pub breaking : Breaking
+  pub spellable : IsSpellable breaking table
 
 -- a block that is a table is sound
 abbrev pub IsSoundBlock : OpenContent → Type 0

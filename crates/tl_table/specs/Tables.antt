@@ -1,6 +1,7 @@
--- Tables one level at a time: a table, a cell and a block by their fields, and the tables nested in them.
-use Rattle.std.specs.Prelude.{◌≡◌, ◌⊎◌, ℕ, zero, suc, List, [], ◌∷◌, Contains}
+-- Tables one level at a time: a table, a cell and a block by their fields, the tables nested in them, and where cells lie.
+use Rattle.std.specs.Prelude.{◌≡◌, ◌⊎◌, ℕ, zero, suc, ◌<◌, List, [], ◌∷◌, map, Contains}
 use Rattle.std.specs.List.{flat_map}
+use Rattle.tl_grid.specs.declared.shape.Place.{Place}
 use Rattle.tl_table.specs.declared.cell.Content.{Content, Content-F, out-Content}
 use Rattle.tl_table.specs.declared.cell.Content.TheOpen as open_content
 use Rattle.tl_table.specs.declared.cell.Table.{Table, Table-F, out-Table}
@@ -30,6 +31,20 @@ tables_in cell = flat_map (λ block. tables_of (out-Content block)) cell.blocks
 -- the tables nested directly in a table, in the order of its cells and their blocks
 abbrev pub inner_tables : OpenTable → List Table
 inner_tables table = flat_map (λ cell. tables_in (out-TableCell cell)) table.cells
+
+-- ---- places
+
+-- where the cell lies
+abbrev pub place_of : TableCell → Place
+place_of cell = (out-TableCell cell).place
+
+-- where the cells of a table lie, in their order
+abbrev pub places_of : OpenTable → List Place
+places_of table = map place_of table.cells
+
+-- the first comes before the second in the order by top, then left
+abbrev pub ComesBefore : Place → Place → Type 0
+ComesBefore first second = (first.top < second.top) ⊎ ((first.top ≡ second.top) × (first.left < second.left))
 
 -- ---- at any depth
 

@@ -23,6 +23,7 @@ ghost use Rattle.tl_table.specs.Formed.{caption_rows, cells_of_group, cells_writ
 ghost use Rattle.tl_table.specs.Refused.{AreRefused, HasNoGrid, tables_in_block, part_of_cell, part_of_group};
 ghost use Rattle.tl_table.specs.Same.{ReturnsTable};
 ghost use Rattle.tl_table.specs.Sound.{IsSound as IsSoundTable, place_of};
+ghost use Rattle.tl_table.specs.Spellable.{IsSpellable};
 ghost use Rattle.tl_table.specs.inner.Forming.{IsOwnError, refusal};
 ghost use Rattle.tl_table.specs.Refused.{tables_in_caption, tables_in_cells, tables_in_flow, tables_in_groups};
 
@@ -329,8 +330,9 @@ pub fn table(alloc: Global, node: &TableNode, breaking: Breaking) -> Result<Tabl
     // The table is what the tree becomes, and whatever table it becomes is returned.
     ensures ok { IfOk result (Becomes breaking node.now) }
     ensures each_ok { (table : Table) → Becomes breaking node.now table → ReturnsTable table result }
-    // What every call that takes a table may count on.
+    // What every call that takes a table may count on; a file can spell it by the same breaking.
     ensures sound { IfOk result IsSoundTable }
+    ensures spellable { IfOk result (IsSpellable breaking) }
     // Each error comes exactly where its cause is so.
     ensures err { IfErr result (IsMemoryOr (Memory alloc_error) (HasNoGrid node.now)) }
     ensures each_err { (error : FormError) → HasNoGrid node.now error

@@ -1,7 +1,7 @@
 //! Laws of the definitions in this crate's specs. Each is the contract of a function that does nothing.
 
 ghost use Rattle.tl_table.specs.FewCells.{FormedHasFewCells};
-ghost use Rattle.tl_table.specs.Laws.{EachNumberIsOfOneTable, FileSpellsOneTable, NoPageIsNarrowerThanAChain, TheFirstHasTheLeastNumber};
+ghost use Rattle.tl_table.specs.Laws.{EachNumberIsOfOneTable, FileSpellsOneTable, FormedTablesAreSound, NoPageIsNarrowerThanAChain, TheFirstHasTheLeastNumber};
 
 use tl_tree::tokens_spell_one_tree;
 
@@ -31,4 +31,9 @@ pub fn formed_has_few_cells()
 /// Each number from a sound table's own on is that of exactly one of the table and those inside it.
 pub fn each_number_is_of_one_table()
     ensures { EachNumberIsOfOneTable }
+{}
+
+/// Each table that a sound tree becomes is sound, and a file can spell it by the same breaking.
+pub fn formed_tables_are_sound()
+    ensures { FormedTablesAreSound }
 {}

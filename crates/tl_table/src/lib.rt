@@ -25,7 +25,8 @@ pub use error::FormError;
 pub use forming::table;
 pub use laws::{
     each_number_is_of_one_table, file_spells_one_table, formed_has_few_cells,
-    no_page_is_narrower_than_a_chain, the_first_without_a_grid_has_the_least_number,
+    formed_tables_are_sound, no_page_is_narrower_than_a_chain,
+    the_first_without_a_grid_has_the_least_number,
 };
 pub use layout::Layout;
 pub use narrow::{narrow_chain, own_width};

@@ -3,7 +3,7 @@ use Rattle.std.proofs.lemmas.Result.{IfOk-weaker}
 use Rattle.tl_table.specs.declared.cell.Table.{Table}
 use Rattle.tl_table.specs.FewCells.{HasFewCells}
 use Rattle.tl_table.specs.Sound.{table_size, IsSound}
-use Rattle.tl_html.specs.Spellable.{IsSpellable}
+use Rattle.tl_table.specs.Spellable.{IsSpellable}
 use Rattle.tl_base.specs.Returned.{IsMemoryOr}
 use Rattle.tl_columns.specs.declared.error.CsvError.TheVariants.{Memory}
 use Rattle.tl_columns.specs.Refused.{IsCsvRefused}

@@ -20,4 +20,4 @@ returns-in-Ok-clause-sound c =
 
 pub returns-in-Ok-clause-spellable : goal.returns-in-Ok-clause-spellable
 returns-in-Ok-clause-spellable c =
-    (c.formed_tables_are_spellable.ensures c.args.breaking c.args.node.now c.in-Ok.table c.requires c.in-Ok.ensures.ok).1
+    c.in-Ok.ensures.spellable

@@ -1,6 +1,6 @@
--- Which sound tables a file can spell: those whose grid and caption the HTML Standard gives ("Forming a table", 4.9.12), and
--- whose paragraphs are whole words that text can stand for. `table` gives no others; a table that was put together by hand may
--- be sound and none of them: with an empty slot to the left of a cell, with a caption that has a floor, with a control
+-- What a file can spell, beside the grid that a sound table has: the caption and the rows that the HTML Standard gives
+-- ("Forming a table", 4.9.12), and paragraphs of whole words that text can stand for. Each sound table is so. A table that was
+-- put together by hand may not be: with an empty slot to the left of a cell, with a caption that has a floor, with a control
 -- character in a word, or with units that the breaking does not give.
 use Rattle.std.specs.Prelude.{◌≡◌, ℕ, zero, suc, ◌+◌, ◌≤◌, Bool, List, [], ◌∷◌, ◌++◌, length}
 use Rattle.std.specs.List.{All, AllByRecursion}
@@ -15,8 +15,7 @@ use Rattle.tl_table.specs.declared.cell.Kind.TheVariants as kinds
 use Rattle.tl_table.specs.declared.cell.Table.{Table, out-Table}
 use Rattle.tl_table.specs.declared.cell.TableCell.{TableCell, out-TableCell}
 use Rattle.tl_table.specs.Formed.{broken, header_kind}
-use Rattle.tl_table.specs.Sound.{places_of}
-use Rattle.tl_table.specs.Tables.{OpenCell, OpenContent, OpenTable, inner_tables}
+use Rattle.tl_table.specs.Tables.{OpenCell, OpenContent, OpenTable, inner_tables, places_of}
 
 -- the units of a paragraph are those of whole words without control characters, by the breaking
 abbrev pub IsSpellableBlock : Breaking → OpenContent → Type 0

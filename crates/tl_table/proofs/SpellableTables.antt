@@ -1,4 +1,4 @@
--- A file can spell each table that a sound tree becomes.
+-- A file can spell each table that a sound tree becomes, by the same breaking.
 use Rattle.std.proofs.Common.{◌≡◌, ◌∙◌, ◌⊎◌, ℕ, zero, suc, ◌+◌, ◌≤◌, Option, Some, None, List, [], ◌∷◌, ◌++◌, map, length}
 use Rattle.std.proofs.Common.{get_or, Contains, refl, sym, ap, subst, inl, inr, arith}
 use Rattle.std.specs.List.{AllByRecursion, AllPairs, flat_map}
@@ -14,7 +14,7 @@ use Rattle.tl_grid.specs.declared.shape.Place.{Place}
 use Rattle.tl_grid.specs.Slots.{IsFilledToLeft}
 use Rattle.tl_grid.proofs.Laws.{all_filled}
 use Rattle.tl_tree.specs.Outline.{block_outline, cell_outline, outline}
-use Rattle.tl_tree.specs.Sound.{AreSound}
+use Rattle.tl_tree.specs.Sound.{AreSound, IsSound as IsSoundTree}
 use Rattle.tl_tree.specs.declared.node.Block.{Block, out-Block}
 use Rattle.tl_tree.specs.declared.node.Block.TheOpen as open_block
 use Rattle.tl_tree.specs.declared.node.CellNode.{CellNode, out-CellNode}
@@ -24,15 +24,13 @@ use Rattle.tl_table.specs.declared.cell.Content.TheOpen as open_content
 use Rattle.tl_table.specs.declared.cell.Table.{Table, out-Table}
 use Rattle.tl_table.specs.declared.cell.TableCell.{TableCell, out-TableCell}
 use Rattle.tl_table.specs.Formed.{OpenBlock, BecomesContent, BecomeContents, BecomesCell, BecomeCells, BecomeCaption, BecomesBy}
-use Rattle.tl_table.specs.Formed.{BecomesWithin, caption_rows, cells_written, lowered, shape_of}
-use Rattle.tl_table.specs.Sound.{ComesBefore, place_of, places_of}
-use Rattle.tl_table.specs.Tables.{OpenContent, OpenTable, tables_in, tables_of}
-use Rattle.tl_table.proofs.SoundFormed.{becomes_sound, flat_groups}
-use Rattle.tl_table.proofs.SoundNodes.{open_outline, block_outline-out, cell_flow, shape_spans, sound_each, table_caption}
-use Rattle.tl_table.proofs.SoundNodes.{table_groups}
+use Rattle.tl_table.specs.Formed.{Becomes, BecomesWithin, caption_rows, cells_written, lowered, shape_of}
+use Rattle.tl_table.specs.Tables.{ComesBefore, OpenContent, OpenTable, place_of, places_of, tables_in, tables_of}
+use Rattle.tl_table.proofs.SoundNodes.{open_outline, block_outline-out, cell_flow, flat_groups, shape_spans, sound_each}
+use Rattle.tl_table.proofs.SoundNodes.{table_caption, table_groups}
 use Rattle.tl_table.proofs.SoundParts.{joined-each}
-use Rattle.tl_html.specs.Laws.{FormedTablesAreSpellable}
-use Rattle.tl_html.specs.Spellable.{AreCaption, AreSpellableBlocks, IsRowCell, IsSpellableBlock, IsSpellableBy, IsSpellableWithin}
+use Rattle.tl_table.specs.Spellable.{AreCaption, AreSpellableBlocks, IsRowCell, IsSpellable, IsSpellableBlock, IsSpellableBy}
+use Rattle.tl_table.specs.Spellable.{IsSpellableWithin}
 
 -- a caption takes one row at most
 one_row : (caption : Option (List Block)) → caption_rows caption ≤ 1
@@ -176,7 +174,7 @@ module _ (breaking : Breaking) (forms : TableNode → Table → Type 0) (spellab
     )
     captions (Some flow) [] is = absurd is
     captions (Some flow) (cap ∷ cells) is = (
-      (record { kind = is.0.kind; place = is.0.place; least = is.0.least }, is.1),
+      (record { kind = is.0.kind; place = is.0.place; least = omega (arith, is.0.least) }, is.1),
       ap (λ (cs : List TableCell). length (cap ∷ cs)) is.1,
     )
 
@@ -294,16 +292,14 @@ module _ (breaking : Breaking) (forms : TableNode → Table → Type 0) (spellab
 
 -- ---- all depths
 
-within_spelt : (depth : ℕ) (breaking : Breaking) (node : TableNode) (made : Table) →
-    BecomesWithin depth breaking node made →
-    AreSound (outline node) → IsSpellableWithin depth breaking made
-within_spelt zero breaking node made becomes sound = absurd becomes
-within_spelt (suc depth) breaking node made becomes sound =
+spellable_within : (depth : ℕ) (breaking : Breaking) (node : TableNode) (made : Table) →
+    BecomesWithin depth breaking node made → AreSound (outline node) → IsSpellableWithin depth breaking made
+spellable_within zero breaking node made becomes sound = absurd becomes
+spellable_within (suc depth) breaking node made becomes sound =
     table_spelt breaking (BecomesWithin depth breaking) (IsSpellableWithin depth breaking)
-    (λ n t b s. within_spelt depth breaking n t b s) node made sound becomes
+    (λ n t b s. spellable_within depth breaking n t b s) node made sound becomes
 
-pub formed_spellable : FormedTablesAreSpellable
-formed_spellable breaking node table tree becomes = (
-  becomes_sound breaking node table tree becomes,
-  (becomes.0, within_spelt becomes.0 breaking node table becomes.1 tree.sound),
-)
+pub becomes_spellable : (breaking : Breaking) (node : TableNode) (made : Table) → IsSoundTree node → Becomes breaking node made →
+    IsSpellable breaking made
+becomes_spellable breaking node made tree becomes =
+    (becomes.0, spellable_within becomes.0 breaking node made becomes.1 tree.sound)
