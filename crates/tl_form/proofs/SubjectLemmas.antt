@@ -7,7 +7,10 @@ use Rattle.std.proofs.lemmas.Bool.{cases_lt}
 use Rattle.std.proofs.lemmas.List.{get_or_append_left, length_push}
 use Rattle.tl_base.specs.declared.style.Style.{Style}
 use Rattle.tl_table.specs.declared.cell.Table.{Table, out-Table}
+use denote.Ref.{Bor}
+use Rattle.tl_form.specs.declared.subject.Subject.{Subject}
 use Rattle.tl_form.specs.Expected.{IsDocumentOf}
+use Rattle.tl_form.specs.Subjects.{AreByNumber}
 use Rattle.tl_table.specs.Least.{IsLeastWidth}
 use Rattle.tl_table.specs.Numbered.{HasNumber, LacksNumber}
 use Rattle.tl_table.specs.Tables.{IsAmong}
@@ -79,4 +82,41 @@ document_made table style page last k least sound so_far all end = record {
       let within = number_within table one sound among in
       so_far.each ((out-Table one).number - (out-Table table).number) 0 (omega (arith, within, all)) one among
       (omega (arith, within.0));
+}
+
+-- ---- the tables by number
+
+-- the first `k` tables, from the table's own number on
+pub record TablesSoFar (table : Table) (k : ℕ) (tables : List (Bor Table)) : Type 0 where
+  pub count : length tables ≡ k
+  pub each : (i : ℕ) (d : Bor Table) → i < k → HasNumber table ((out-Table table).number + i) (get_or tables i d).now
+
+pub tables_none : (table : Table) (tables : List (Bor Table)) → tables ≡ [] → TablesSoFar table 0 tables
+tables_none table tables none = subst (TablesSoFar table 0) (sym none)
+    (record { count = refl; each = λ i d less. absurd (omega (arith, less)) })
+
+pub tables_more : (table : Table) (k : ℕ) (one : Bor Table) (tables more : List (Bor Table)) → TablesSoFar table k tables →
+    more ≡ tables ++ one ∷ [] → HasNumber table ((out-Table table).number + k) one.now → TablesSoFar table (k + 1) more
+tables_more table k one tables more so_far push next = subst (TablesSoFar table (k + 1)) (sym push) (record {
+  count = omega (arith, length_push tables one, so_far.count);
+  each = λ i d less. elim (cases_lt i k) [
+    | inl old ↦ subst (λ (t : Bor Table). HasNumber table ((out-Table table).number + i) t.now)
+        (sym (get_or_append_left tables (one ∷ []) d i (omega (arith, old, so_far.count)))) (so_far.each i d old)
+    | inr new ↦
+        let same : i ≡ length tables = omega (arith, less, new, so_far.count) in
+        let at : get_or (tables ++ one ∷ []) i d ≡ one = ap (λ j. get_or (tables ++ one ∷ []) j d)
+        same ∙ get_or-append_seam tables one [] d in
+        let number : (out-Table table).number + k ≡ (out-Table table).number + i = omega (arith, same, so_far.count) in
+        subst (λ (t : Bor Table). HasNumber table ((out-Table table).number + i) t.now) (sym at)
+        (subst (λ n. HasNumber table n one.now) number next)
+  ];
+})
+
+pub by_number : (subject : Subject) (k : ℕ) → TablesSoFar subject.table.now k subject.tables.items →
+    k ≡ nested_in_table subject.table.now + 1 → AreByNumber subject
+by_number subject k so_far all = record {
+  count = so_far.count ∙ all;
+  each = λ i d less.
+      let has = so_far.each i d (omega (arith, less, so_far.count)) in
+      record { among = has.among; numbered = has.numbered };
 }

@@ -6,9 +6,9 @@ ghost use Rattle.tl_base.specs.declared.limits.TheConstants.{MAX_HEIGHT};
 ghost use Rattle.tl_table.specs.declared.cell.Table.{Table, out-Table};
 ghost use Rattle.tl_form.specs.Expected.{IsDocumentOf, IsTableOf, first_due, next_due, own_number};
 ghost use Rattle.tl_table.specs.Least.{IsLeastWidth};
-ghost use Rattle.tl_table.specs.Tables.{IsAmong};
+ghost use Rattle.tl_table.specs.Numbered.{HasNumber};
 ghost use Rattle.tl_table.specs.Sound.{IsSound, nested_in_table};
-ghost use Rattle.tl_form.specs.Subjects.{due_of, meant};
+ghost use Rattle.tl_form.specs.Subjects.{AreByNumber, due_of, meant};
 
 use std::alloc::{AllocError, Global};
 use tl_base::Style;
@@ -25,6 +25,9 @@ pub struct Subject<'a> {
     pub last: u32,
     /// The least widths of the tables, by their numbers from that of the table itself on.
     pub least: Vec<u32>,
+    /// The tables, by their numbers from that of the table itself on. To look one up by its number in the
+    /// table itself takes a walk over all that stands before it.
+    pub tables: Vec<&'a Table>,
 }
 
 /// A section of this table at this width.
@@ -34,17 +37,23 @@ pub struct Due {
     pub width: u32,
 }
 
-/// The least width of the table with this number.
-fn least_of(alloc: Global, table: &Table, style: Style, number: u32) -> Result<u32, AllocError>
+/// The table with this number, and its least width.
+fn least_of<'a>(
+    alloc: Global,
+    table: &'a Table,
+    style: Style,
+    number: u32,
+) -> Result<(&'a Table, u32), AllocError>
     requires sound { IsSound table.now }
     requires from { (out-Table table.now).number ≤ number }
     requires upto { number ≤ (out-Table table.now).number + nested_in_table table.now }
-    ensures least { IfOk result (λ least. (one : Table) → IsAmong table.now one → (out-Table one).number ≡ number →
-        IsLeastWidth one style least) }
-    ensures small { IfOk result (λ least. least ≤ MAX_HEIGHT) }
+    ensures one { IfOk result (λ found. HasNumber table.now number found.0.now) }
+    ensures least { IfOk result (λ found. IsLeastWidth found.0.now style found.1) }
+    ensures small { IfOk result (λ found. found.1 ≤ MAX_HEIGHT) }
 {
     let one = with_number(table, number).unwrap();
-    least_width(alloc, one, style)
+    let least = least_width(alloc, one, style)?;
+    Ok((one, least))
 }
 
 impl<'a> Subject<'a> {
@@ -58,11 +67,15 @@ impl<'a> Subject<'a> {
         requires sound { IsSound table.now }
         ensures is { IfOk result (λ subject. IsDocumentOf table.now style page (meant subject)) }
         ensures small { IfOk result (λ subject. All (λ least. least ≤ MAX_HEIGHT) subject.least.items) }
+        ensures tables { IfOk result AreByNumber }
     {
         let count = nested(table) + 1;
         let mut least = Vec::new(alloc);
+        let mut tables = Vec::new(alloc);
         for k in 0..count {
-            least.push(least_of(alloc, table, style, table.number + k)?)?;
+            let (one, width) = least_of(alloc, table, style, table.number + k)?;
+            least.push(width)?;
+            tables.push(one)?;
         }
         Ok(Subject {
             table,
@@ -70,17 +83,18 @@ impl<'a> Subject<'a> {
             page,
             last: table.number + count - 1,
             least,
+            tables,
         })
     }
 
     /// The table with this number.
     pub fn table_of(&self, number: u32) -> &'a Table
-        requires sound { IsSound self.now.table.now }
+        requires tables { AreByNumber self.now }
         requires from { own_number (meant self.now) ≤ number }
         requires upto { number ≤ own_number (meant self.now) + nested_in_table self.now.table.now }
         ensures { IsTableOf (meant self.now) number result.now }
     {
-        with_number(self.table, number).unwrap()
+        self.tables[(number - self.table.number) as usize]
     }
 
     /// The first section that is due.

@@ -14,7 +14,7 @@ use Rattle.tl_table.specs.Least.{IsLeastWidth}
 use Rattle.tl_form.specs.Nested.{AreInnerSteps, IsProblemFor}
 use Rattle.tl_form.specs.Problems.{IsProblemOf}
 use Rattle.tl_table.specs.Sound.{IsSound}
-use Rattle.tl_form.specs.Subjects.{IsSubject, meant}
+use Rattle.tl_form.specs.Subjects.{AreByNumber, IsSubject, meant}
 use Rattle.tl_form.specs.Valid.{AreGoodBelow, IsProblemAt}
 use Rattle.tl_form.proofs.DueLaws.{MayBeDue, may_be_due}
 use Rattle.tl_table.proofs.LinkLemmas.{IsLeastWidth-unique}
@@ -39,11 +39,12 @@ wide_page subject is fits = record {
 
 -- a subject that was made of a table
 pub subject_of : (table : Table) (style : Style) (page : ℕ) (subject : Subject) → IsSound table → page ≤ MAX_PAGE_WIDTH →
-    IsDocumentOf table style page (meant subject) → IsSubject subject
-subject_of table style page subject sound narrow of = record {
+    IsDocumentOf table style page (meant subject) → AreByNumber subject → IsSubject subject
+subject_of table style page subject sound narrow of tables = record {
   sound = subst IsSound (sym of.same) sound;
   narrow = omega (arith, of.wide, narrow);
   document = record { same = refl; drawn = refl; wide = refl; numbers = of.numbers; each = of.each; least = of.least };
+  tables = tables;
 }
 
 pub fits_of : (table : Table) (style : Style) (page : ℕ) (subject : Subject) → IsDocumentOf table style page (meant subject) →

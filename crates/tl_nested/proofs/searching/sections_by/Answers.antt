@@ -17,7 +17,7 @@ pub loop-due-init : goal.loop-due-init
 loop-due-init g c =
     let subject = c.in_ok-subject.subject in
     begun_so_far subject
-    (subject_of c.args.table.now c.args.style c.args.width subject c.requires.sound c.requires.narrow c.in_ok-subject.ensures.is)
+    (subject_of c.args.table.now c.args.style c.args.width subject c.requires.sound c.requires.narrow c.in_ok-subject.ensures.is c.in_ok-subject.ensures.tables)
     (fits_of c.args.table.now c.args.style c.args.width subject c.in_ok-subject.ensures.is c.requires.wide)
     c.sections_give_sound_problems.ensures (GivesOutcome g.F.Fn c.args.solve.now c.args.budget) c.args.budget
     c.in_ok-found.found c.begin-sections.result.sections (due_of c.begin-sections.result.due) c.in_ok-found.ensures
@@ -35,7 +35,7 @@ next_due-due-requires-clause-from g c =
     let so_far = subst (λ o. AreSoFar given (meant subject) c.args.budget c.loop-due.sections (option_map due_of o))
     c.in-Some.is c.loop-due.invariant in
     (may subject (subject_of c.args.table.now c.args.style c.args.width subject c.requires.sound c.requires.narrow
-    c.in_ok-subject.ensures.is)
+    c.in_ok-subject.ensures.is c.in_ok-subject.ensures.tables)
     (fits_of c.args.table.now c.args.style c.args.width subject c.in_ok-subject.ensures.is c.requires.wide)
     c.loop-due.sections c.args.budget
     (good_so_far given (meant subject) c.args.budget c.loop-due.sections so_far.each) now so_far.due).from
@@ -48,7 +48,7 @@ loop-due-smaller g c =
     let so_far = subst (λ o. AreSoFar given (meant subject) c.args.budget c.loop-due.sections (option_map due_of o))
     c.in-Some.is c.loop-due.invariant in
     let may_be = may subject (subject_of c.args.table.now c.args.style c.args.width subject c.requires.sound c.requires.narrow
-    c.in_ok-subject.ensures.is)
+    c.in_ok-subject.ensures.is c.in_ok-subject.ensures.tables)
     (fits_of c.args.table.now c.args.style c.args.width subject c.in_ok-subject.ensures.is c.requires.wide)
     c.loop-due.sections c.args.budget
     (good_so_far given (meant subject) c.args.budget c.loop-due.sections so_far.each) now so_far.due in
@@ -71,7 +71,7 @@ loop-due-preserved g c =
     let so_far = subst (λ o. AreSoFar given (meant subject) c.args.budget c.loop-due.sections (option_map due_of o))
     c.in-Some.is c.loop-due.invariant in
     let may_be = may subject (subject_of c.args.table.now c.args.style c.args.width subject c.requires.sound c.requires.narrow
-    c.in_ok-subject.ensures.is)
+    c.in_ok-subject.ensures.is c.in_ok-subject.ensures.tables)
     (fits_of c.args.table.now c.args.style c.args.width subject c.in_ok-subject.ensures.is c.requires.wide)
     c.loop-due.sections c.args.budget
     (good_so_far given (meant subject) c.args.budget c.loop-due.sections so_far.each) now so_far.due in
@@ -99,5 +99,5 @@ returns-clause-writable g c = all_so_far (GivesOutcome g.F.Fn c.args.solve.now c
     c.in_ok-subject.subject c.args.budget c.loop-due.sections
     (option_map due_of c.loop-due.due)
     (subject_of c.args.table.now c.args.style c.args.width c.in_ok-subject.subject c.requires.sound c.requires.narrow
-    c.in_ok-subject.ensures.is)
+    c.in_ok-subject.ensures.is c.in_ok-subject.ensures.tables)
     (ap (option_map due_of) c.in_default.is) c.loop-due.invariant
