@@ -1,5 +1,6 @@
 mod Examples
 mod LogExamples
+mod PieceExamples
 pub mod Firing
 pub mod GoodLines
 pub mod Writable
@@ -7,9 +8,9 @@ mod TraceLogLaws
 mod Cuts
 mod ZoneLists
 mod FewSpans
-mod Opening
+pub mod Opening
 pub mod OrderLaws
 pub mod ArenaLaws
-mod Agreeing
+pub mod Agreeing
 mod EndLaws
 pub mod WalkLaws

@@ -29,14 +29,14 @@ use Rattle.tl_solve.specs.inner.Walk.{IsStack, KeepsClassOrder}
 use Rattle.tl_solve.proofs.OrderLaws.{at-each-push, from-before, follows-from, before-more, follows-more, lower-from, upper-from}
 use Rattle.tl_solve.proofs.OrderLaws.{lower-before_upper}
 
-pairs-init : {X : Type 0} (R : X → X → Type 0) (xs : List X) (x : X) → AllPairs R (xs ++ x ∷ []) → AllPairs R xs
+pub pairs-init : {X : Type 0} (R : X → X → Type 0) (xs : List X) (x : X) → AllPairs R (xs ++ x ∷ []) → AllPairs R xs
 pairs-init R xs x pairs i j d less within =
     let short : i < length xs = omega (arith, less, within) in
     let here = pairs i j d less (omega (arith, within, length-append xs (x ∷ []))) in
     subst (λ y. R (get_or xs i d) y) (get_or_append_left xs (x ∷ []) d j within)
     (subst (λ y. R y (get_or (xs ++ x ∷ []) j d)) (get_or_append_left xs (x ∷ []) d i short) here)
 
-pairs-last : {X : Type 0} (R : X → X → Type 0) (xs : List X) (x : X) → AllPairs R (xs ++ x ∷ []) → All (λ y. R y x) xs
+pub pairs-last : {X : Type 0} (R : X → X → Type 0) (xs : List X) (x : X) → AllPairs R (xs ++ x ∷ []) → All (λ y. R y x) xs
 pairs-last R xs x pairs i d within =
     let here = pairs i (length xs + 0) d (omega (arith, within)) (omega (arith, length-append xs (x ∷ []))) in
     subst (λ y. R (get_or xs i d) y) (get_or-append-add xs (x ∷ []) 0 d)

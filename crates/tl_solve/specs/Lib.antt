@@ -6,4 +6,5 @@ pub mod Orders
 pub mod CutsFound
 pub mod Ends
 pub mod Plain
+pub mod Piece
 pub mod inner

@@ -188,8 +188,8 @@ impl Arena {
     }
 }
 
-/// The number of the first range of more than one class.
-fn first_open(ranges: &[Range]) -> Option<u32>
+/// The number of the first range of more than one class, counted from 0; `None` where each has one class.
+pub fn first_open(ranges: &[Range]) -> Option<u32>
     requires { length ranges.now ≤ MAX_SPAN + 1 }
     ensures none { IfNone result (HasOneClass ranges.now) }
     ensures first { IfSome result (IsFirstOpen ranges.now) }

@@ -10,15 +10,17 @@ mod lines;
 mod log;
 mod looks;
 mod outcome;
+mod piece;
 mod plain;
 mod solver;
 #[cfg(test)]
 mod tests;
 mod zones;
 
-pub use arena::Arena;
+pub use arena::{Arena, first_open};
 pub use lines::cuts_of_zones;
 pub use log::trace_log;
 pub use outcome::Outcome;
+pub use piece::{MakePiece, Piece, PieceSolver};
 pub use plain::Plain;
 pub use solver::Solver;
