@@ -6,3 +6,4 @@ pub mod Learnings
 pub mod Closing
 pub mod Walk
 pub mod Ends
+pub mod PieceLaws

@@ -1,3 +1,4 @@
 -- What the private functions promise one another. No public clause cites it.
 pub mod Learnings
 pub mod Opens
+pub mod UnderWay

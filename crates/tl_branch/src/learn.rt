@@ -13,7 +13,7 @@ use tl_solve::{Outcome, Solver};
 /// bounds are shrunk, and, where `low` is `high` for every cell, a zone that such a line closes is not cut.
 #[derive(Debug, Drop)]
 pub struct Learn {
-    alloc: Global,
+    pub(crate) alloc: Global,
 }
 
 impl Learn {

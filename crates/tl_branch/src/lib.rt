@@ -9,6 +9,10 @@ mod learn;
 mod learning;
 mod lines;
 mod lower;
+mod lowest;
 mod opens;
+mod pieces;
+mod under_way;
 
 pub use learn::Learn;
+pub use pieces::MakeLearnPiece;
