@@ -10,7 +10,8 @@ use Rattle.tl_problem.specs.Zones.{IsZone, InZone}
 use Rattle.tl_problem.specs.Agreement.{LowIsHigh}
 use Rattle.tl_cert.specs.declared.log.LogLine.{LogLine}
 use Rattle.tl_cert.specs.declared.trace.CutAt.{CutAt}
-use Rattle.tl_cert.specs.Traces.{IsTraceOf}
+use Rattle.tl_cert.specs.Traces.{IsTrace, IsTraceOf, Stands, zone_at}
+use Rattle.tl_cert.specs.Appended.{appended, IsAppended}
 use Rattle.tl_cert.specs.Nogoods.{Meets, zone_bounds, nogood_bounds, IsTrueFor}
 use Rattle.tl_cert.specs.Lines.{nogood_at, IsGoodLog}
 use Rattle.tl_cert.specs.Counting.{PartsVectors}
@@ -45,3 +46,9 @@ abbrev pub ZonesMeetTheirBounds : Type 0
 ZonesMeetTheirBounds = (problem : ProblemModel) → IsSound problem →
     (zone : List Range) → IsZone problem zone → (widths : List ℕ) →
     InZone problem zone widths ↔ (WithinPage problem widths × All (Meets problem widths) (zone_bounds problem zone))
+
+-- the cuts of a piece, which begins with a zone that stands, can stand after those of the trace
+abbrev pub PiecesCanBeAppended : Type 0
+PiecesCanBeAppended = (whole : List Range) (trace : List CutAt) → IsTrace whole trace →
+    (z : ℕ) → Stands trace z →
+    (piece : List CutAt) → IsTrace (zone_at whole trace z) piece → IsAppended whole trace z piece (appended trace z piece)

@@ -10,4 +10,5 @@ pub mod Worked
 pub mod Counting
 pub mod Laws
 pub mod ZoneOrders
+pub mod Appended
 pub mod Learnt

@@ -1,6 +1,6 @@
 //! Laws of the definitions in this crate's specs. Each is the contract of a function that does nothing.
 ghost use Rattle.tl_cert.specs.Laws.{EnoughBudgetCloses, GoodLogsAreSound, NogoodsAreTrue};
-ghost use Rattle.tl_cert.specs.Laws.{TracesPartVectors, ZonesMeetTheirBounds};
+ghost use Rattle.tl_cert.specs.Laws.{PiecesCanBeAppended, TracesPartVectors, ZonesMeetTheirBounds};
 
 /// No layout by `low` is lower than what a log is good for.
 pub fn good_logs_are_sound()
@@ -28,4 +28,10 @@ pub fn enough_budget_closes()
 /// The widths of a zone are those within the page that meet the bounds that its cuts made.
 pub fn zones_meet_their_bounds()
     ensures { ZonesMeetTheirBounds }
+{}
+
+/// The cuts of a piece, which begins with a zone that stands, can stand after those of the trace: both are
+/// a trace again, with the zones of both.
+pub fn pieces_can_be_appended()
+    ensures { PiecesCanBeAppended }
 {}

@@ -25,8 +25,8 @@ pub use certificate::{Certificate, Claim};
 pub use certificate_text::read;
 pub use error::CertError;
 pub use laws::{
-    enough_budget_closes, good_logs_are_sound, nogoods_are_true, traces_part_vectors,
-    zones_meet_their_bounds,
+    enough_budget_closes, good_logs_are_sound, nogoods_are_true, pieces_can_be_appended,
+    traces_part_vectors, zones_meet_their_bounds,
 };
 pub use limits::{
     MAX_BOUNDS, MAX_CLASS, MAX_FIRES, MAX_LINE, MAX_SECTIONS, MAX_SPAN, MAX_TABLE, MAX_ZONE,
