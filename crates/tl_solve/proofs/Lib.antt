@@ -13,4 +13,5 @@ pub mod OrderLaws
 pub mod ArenaLaws
 pub mod Agreeing
 mod EndLaws
+mod TraceEndLaws
 pub mod WalkLaws

@@ -26,7 +26,8 @@ use Rattle.tl_cert.specs.ZoneOrders.{ComesFrom, ZoneComesBefore}
 use Rattle.tl_solve.specs.Orders.{IsFirstCut, CutsFirstSpans, IsBelowPlacements, CutsBelowPlacements}
 use Rattle.tl_solve.specs.Orders.{Follows, IsInClassOrder}
 use Rattle.tl_solve.specs.inner.Walk.{IsStack, KeepsClassOrder}
-use Rattle.tl_solve.proofs.OrderLaws.{at-each-push, from-before, follows-from, before-more, follows-more, lower-from, upper-from}
+use Rattle.tl_cert.proofs.Origins.{lower-from, upper-from}
+use Rattle.tl_solve.proofs.OrderLaws.{at-each-push, from-before, follows-from, before-more, follows-more}
 use Rattle.tl_solve.proofs.OrderLaws.{lower-before_upper}
 
 pub pairs-init : {X : Type 0} (R : X → X → Type 0) (xs : List X) (x : X) → AllPairs R (xs ++ x ∷ []) → AllPairs R xs

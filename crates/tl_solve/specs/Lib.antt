@@ -5,6 +5,7 @@ pub mod TraceLogs
 pub mod Orders
 pub mod CutsFound
 pub mod Ends
+pub mod TraceEnds
 pub mod Plain
 pub mod Piece
 pub mod inner

@@ -104,7 +104,7 @@ impl Arena {
 }
 
 /// The least of a height and of the bounds of the zones that no cut has.
-fn least_standing(cuts: &[Option<u32>], bounds: &[Option<u32>], height: u32) -> u32
+pub(crate) fn least_standing(cuts: &[Option<u32>], bounds: &[Option<u32>], height: u32) -> u32
     requires { length cuts.now ≡ length bounds.now }
     ensures { IsLeastUpto cuts.now bounds.now height (length bounds.now) result }
 {

@@ -15,6 +15,7 @@ mod plain;
 mod solver;
 #[cfg(test)]
 mod tests;
+mod trace_ending;
 mod zones;
 
 pub use arena::{Arena, first_open};
@@ -24,3 +25,5 @@ pub use outcome::Outcome;
 pub use piece::{MakePiece, Piece, PieceSolver};
 pub use plain::Plain;
 pub use solver::Solver;
+pub use trace_ending::trace_outcome;
+pub use zones::zones_of_trace;

@@ -11,7 +11,7 @@ use tl_cert::Trace;
 use tl_problem::{Problem, Work, Zone};
 
 /// The zones of the trace, by their numbers.
-pub(crate) fn zones_of_trace(
+pub fn zones_of_trace(
     alloc: Global,
     problem: &Problem,
     trace: &Trace,
