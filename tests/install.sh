@@ -1,6 +1,6 @@
 #!/usr/bin/env bash
 # Installs the command into an empty folder, runs it from there where there is no checkout, and removes it. If all is as
-# it should be this prints nothing.
+# it should be this prints nothing, but for what is skipped.
 set -uo pipefail
 top=$(dirname "$(dirname "$(readlink -f "${BASH_SOURCE[0]}")")")
 # shellcheck source=tests/common.bash
@@ -11,7 +11,7 @@ checkout=${room:?}/checkout
 mkdir -p "$checkout/crates/tl_program/out" "$checkout/tools"
 cp -p "$top/tablelayout" "$top/crates.txt" "$checkout"
 cp -p "$top/tools/building.bash" "$checkout/tools"
-cp -pR "$top/command" "$checkout"
+cp -pR "$top/command" "$top/integrations" "$checkout"
 cp -p "$program" "$checkout/crates/tl_program/out"
 # Nothing is found that could prove and build.
 PATH=/usr/bin:/bin
@@ -35,7 +35,10 @@ share/bash-completion/completions
 share/bash-completion/completions/tablelayout
 share/man
 share/man/man1
-share/man/man1/tablelayout.1" "in the folder"
+share/man/man1/tablelayout.1
+share/pandoc
+share/pandoc/filters
+share/pandoc/filters/tablelayout.lua" "in the folder"
 grep -lrF "$room" "$to" | expect_text "$to/libexec/tablelayout/folders" "of files that name a folder"
 
 # From another folder, by a link, as a shell finds it.
@@ -54,6 +57,14 @@ expect_text $'aaa  cc dd\nbbb  ee   ' "as the page" <page.txt
 all_of tablelayout check 12 in.html page.cert | expect_text $'lowest height 2 width 10\nstatus 0' "by check"
 all_of tablelayout demo 0 | expect_text $'cells 159 count 185118922800 height 130 lower 130 cuts 7\nstatus 0' "by demo"
 all_of tablelayout preview 12 in.html | expect_text $'aaa  cc dd\nbbb  ee   \nlowest height 2 width 10\nstatus 0' "by preview"
+if command -v pandoc >/dev/null; then
+    # The filter finds the command beside it, which is not in the path.
+    PATH=/usr/bin:/bin all_of pandoc -t plain --columns 12 --data-dir "$to/share/pandoc" --lua-filter tablelayout.lua \
+        <<<'<table><tr><td>aaa bbb</td><td>cc dd ee</td></tr></table>' -f html |
+        expect_text $'aaa cc dd\nbbb ee\nstatus 0' "by pandoc with the filter"
+else
+    skip "there is no pandoc, so the installed filter is not tried"
+fi
 all_of tablelayout uninstall "$to" | expect_text $'usage\nstatus 2' "by uninstall without a checkout"
 mv "$room/away" "$checkout"
 

@@ -1,5 +1,5 @@
 #!/usr/bin/env bash
-# Looks for mistakes in the scripts and in the manual page. If there are none it prints nothing, but for what is skipped.
+# Looks for mistakes in the scripts, in the filter for pandoc and in the manual page. If there are none it prints nothing, but for what is skipped.
 set -uo pipefail
 cd "$(dirname "$(dirname "$(readlink -f "${BASH_SOURCE[0]}")")")" || exit 1
 failed=0
@@ -9,9 +9,15 @@ skip() {
 }
 
 if command -v shellcheck >/dev/null; then
-    shellcheck -x tablelayout command/show command/install .ci/run tests/*.sh {command,tests,tools}/*.bash || failed=1
+    shellcheck -x tablelayout command/show command/install .ci/run bench/real.sh tests/*.sh {command,tests,tools}/*.bash || failed=1
 else
     skip shellcheck "so the scripts are not looked at"
+fi
+
+if command -v luacheck >/dev/null; then
+    luacheck --quiet --no-color integrations/pandoc/tablelayout.lua bench/real.lua | grep -v '^Total: 0 warnings / 0 errors' && failed=1
+else
+    skip luacheck "so the filter for pandoc is not looked at"
 fi
 
 if command -v mandoc >/dev/null; then

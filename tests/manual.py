@@ -3,8 +3,8 @@
 
     tests/manual.py
 
-The usage of each command, the options with their values, the statuses with their messages, the kinds of bad input, the
-limits and the reasons of a rejection have to be the same in the documents and in the manual page; the help has the same
+The usage of each command, the options with their values, the settings of the filter for pandoc, the statuses with their
+messages, the kinds of bad input, the limits and the reasons of a rejection have to be the same in the documents and in the manual page; the help has the same
 commands, options and statuses, and the completion of bash offers the options and the values of each command. If all
 agree it prints nothing. Otherwise it prints each difference, and ends with 1.
 """
@@ -14,7 +14,7 @@ import sys
 from pathlib import Path
 
 TOP = Path(__file__).resolve().parent.parent
-DOCUMENTS = ("docs/COMMAND.md", "docs/SHOW.md")
+DOCUMENTS = ("docs/COMMAND.md", "docs/SHOW.md", "docs/PANDOC.md")
 MANUAL = TOP / "command/tablelayout.1"
 COMPLETION = TOP / "command/completion.bash"
 # Each option of `lay`.
@@ -55,6 +55,7 @@ def read_documents(text):
     return {
         "usage": dict((command, " ".join(words.split())) for command, words in usages),
         "option": dict(option_of(literals(it[0])) for it in rows(text, ["Option"])),
+        "setting": {literals(it[0])[0]: tuple(literals(it[1])) for it in rows(text, ["Setting"])},
         "status": {it[0]: set(literals(it[2])) for it in rows(text, ["Status", "When", "Message"])},
         "kind of bad input": {kind for it in re.findall(r"KIND is one of (.*?)\.", text, re.S) for kind in literals(it)},
         "limit": {literals(it[0])[0]: first_number(it[1]) for it in rows(text, ["NAME"])},
@@ -115,6 +116,7 @@ def read_manual(text):
     return {
         "usage": read_synopsis(of["SYNOPSIS"]),
         "option": dict(option_of(it.replace("|", " ").split()) for it in read_items(of["OPTIONS"])),
+        "setting": dict(option_of(it.replace("|", " ").split()) for it in read_items(of["DOCUMENTS"])),
         "status": {it: displayed(below) for it, below in read_items(of["EXIT STATUS"]).items()},
         "kind of bad input": set(lists["KIND"]),
         "limit": {it: first_number(" ".join(below)) for it, below in lists["NAME"].items()},

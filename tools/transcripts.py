@@ -9,7 +9,8 @@ what the file of this name holds by then. Without names it runs README.md and ea
 
 It runs in a copy of the repository, by the launcher and the program that stands in this checkout, and proves
 nothing: if the program is missing, or older than its sources, it says so and ends with 1. So it does if a block
-differs, with the difference. If all is as shown it prints nothing.
+differs, with the difference. If all is as shown it prints nothing. A transcript that needs pandoc is skipped where
+that is missing, which standard error says.
 """
 import difflib
 import os
@@ -62,6 +63,13 @@ def blocks(document):
             yield line, it[1], lambda at, name=named[1]: run(f"cat '{name}'", at)
 
 
+def is_skipped(document, line, shown):
+    if "$ pandoc " not in shown or shutil.which("pandoc"):
+        return False
+    print(f"transcripts: skipped: there is no pandoc, for {document.name}, line {line}", file=sys.stderr)
+    return True
+
+
 def differs(document, line, shown, given):
     if shown == given:
         return False
@@ -79,7 +87,7 @@ def main(documents):
             sys.exit("transcripts: the program is missing or older than its sources; rt ci, or a command of ./tablelayout, builds it")
         for document in documents:
             for line, shown, made in blocks(document):
-                failed += differs(document, line, shown, made(at))
+                failed += not is_skipped(document, line, shown) and differs(document, line, shown, made(at))
     return 1 if failed else 0
 
 

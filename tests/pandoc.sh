@@ -1,0 +1,77 @@
+#!/usr/bin/env bash
+# Runs the filter for pandoc on a document for each reader, and where a table cannot be laid out. What has to come out was
+# drawn by hand, as pandoc 2.17 reads the documents, and stands in pandoc/. If all is so this prints nothing, but for what
+# is skipped.
+set -uo pipefail
+top=$(dirname "$(dirname "$(readlink -f "${BASH_SOURCE[0]}")")")
+# shellcheck source=tests/common.bash
+. "$top/tests/common.bash"
+if ! command -v pandoc >/dev/null; then
+    skip "there is no pandoc, so its filter is not tried"
+    exit 0
+fi
+unset TABLELAYOUT
+# A file that is left behind would stand in one of these.
+mkdir "${room:?}/temporary" "$room/work" "$room/made"
+export TMPDIR=$room/temporary
+cd "$room/work" || exit 1
+cp "$top"/tests/pandoc/* .
+names . >"$room/names"
+
+# Runs pandoc with the filter: the arguments are pandoc's.
+with_filter() {
+    pandoc --lua-filter "$top/integrations/pandoc/tablelayout.lua" -t plain --columns 44 "$@"
+}
+
+with_filter ships.html 2>&1 | expect html.txt "of HTML"
+with_filter ships.md 2>&1 | expect markdown.txt "of markdown"
+with_filter ships.tex 2>&1 | expect latex.txt "of LaTeX"
+sed 's/<img[^>]*>//' ships.html | pandoc -f html -o "$room/made/ships.docx"
+with_filter "$room/made/ships.docx" 2>&1 | expect docx.txt "of docx"
+pandoc ships.md -o "$room/made/ships.odt"
+with_filter "$room/made/ships.odt" 2>&1 | expect odt.txt "of odt"
+with_filter ships.md -t markdown 2>&1 | expect code.txt "as markdown"
+
+# Settings.
+with_filter columns.md -M tablelayout-style=frame 2>&1 | expect frame.txt "in a frame"
+with_filter columns.md -M tablelayout-width=7 2>&1 | expect broken.txt "with broken words"
+with_filter columns.md -M tablelayout-style=some 2>&1 >"$room/page" | grep -o "tablelayout-style is .*" |
+    expect_text "tablelayout-style is some, and has to be one of plain, compact, frame" "of no style"
+with_filter columns.md -M tablelayout-width=501 2>&1 >"$room/page" | grep -o "tablelayout-width is .*" |
+    expect_text "tablelayout-width is 501, and has to be from 1 to 500" "of too wide a page"
+
+# A table that stays as pandoc writes it: why, and the arguments of pandoc.
+stays() {
+    pandoc -t plain --columns 44 "$2" >"$room/own"
+    with_filter "${@:2}" 2>"$room/said" | expect "$room/own" "by pandoc of ${*:2}"
+    expect_text "tablelayout: table 1 $1" "on standard error of ${*:2}" <"$room/said"
+}
+stays "(aaa bbb cc dd ee): it stays as pandoc writes it: no layout fits 2 columns, and the least width is 3" \
+    columns.md -M tablelayout-width=2
+stays "(aaa bbb cc dd ee): it stays as pandoc writes it: no layout fits 5 columns, and the least width is 6" \
+    columns.md -M tablelayout-width=5 -M tablelayout-break=words
+{
+    echo "<table><tr>"
+    printf '<td>%d</td>' {1..61}
+    echo "</tr></table>"
+} >"$room/made/wide.html"
+stays "(1 2 3 4 5 6 7 8 9 10 11 12 13 14 15 16 1..): it stays as pandoc writes it: limit: columns 61" "$room/made/wide.html"
+with_filter ships.html -t rst 2>"$room/said" | expect <(pandoc ships.html -t rst --columns 44) "as rst"
+expect_text "tablelayout: tables stay as pandoc writes them, since rst is no format of text" "on standard error of rst" <"$room/said"
+
+# Another program that the environment names.
+cat >"$room/made/hurried" <<PROGRAM
+#!/bin/sh
+exec '$program' "\$@" --budget 0
+PROGRAM
+chmod +x "$room/made/hurried"
+TABLELAYOUT=$room/made/hurried with_filter columns.md -M tablelayout-width=12 2>"$room/said" | expect hurried.txt "by a program without cuts"
+expect_text "tablelayout: table 1 (aaa bbb cc dd ee): its page may not be the lowest: bounded height 3 lower 2 width 6" \
+    "on standard error of a program without cuts" <"$room/said"
+TABLELAYOUT=$room/none with_filter columns.md 2>&1 >"$room/page" | grep -o "the command could not be run" |
+    expect_text "the command could not be run" "without a program"
+
+names . | expect "$room/names" "and left"
+names "$TMPDIR" | expect_text "" "and left for a time"
+
+[ ! -e "$failed" ]
