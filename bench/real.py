@@ -2,6 +2,7 @@
 """Lays out the tables of real documents beside w3m and links; real.sh says what it prints."""
 import os
 import re
+import shutil
 import subprocess
 import sys
 import tempfile
@@ -18,6 +19,7 @@ DOCUMENTS, TABLES, DOCUMENT_COLUMNS, MOST_SECONDS = 20, 10, 72, 60
 LOWEST, BOUNDED, NARROW = 0, 3, 4
 # A space at which no line breaks, as the filter writes it.
 BLANK = "\ufdd0"
+OTHERS = [it for it in ("w3m", "links") if shutil.which(it)]
 # What pandoc draws tables with.
 RULES = set("-=+|:")
 # What pandoc writes in the place of a table that it cannot draw.
@@ -119,7 +121,7 @@ def compare(html, wanted, room, totals, count):
     for width in WIDTHS:
         page, is_broken, took = lay_out(html, width, count)
         pages, seconds = {"tablelayout": page}, {"tablelayout": took}
-        for other in ("w3m", "links"):
+        for other in OTHERS:
             pages[other], seconds[other] = browse(other, html, width, room)
         lines, fits = {}, {}
         for program, it in pages.items():

@@ -15,7 +15,7 @@ else
 fi
 
 if command -v luacheck >/dev/null; then
-    luacheck --quiet --no-color integrations/pandoc/tablelayout.lua bench/real.lua | grep -v '^Total: 0 warnings / 0 errors' && failed=1
+    said=$(luacheck --no-color integrations/pandoc/tablelayout.lua bench/real.lua) || { echo "$said" && failed=1; }
 else
     skip luacheck "so the filter for pandoc is not looked at"
 fi
