@@ -20,6 +20,7 @@ LOWEST, BOUNDED, NARROW = 0, 3, 4
 # A space at which no line breaks, as the filter writes it.
 BLANK = "\ufdd0"
 OTHERS = [it for it in ("w3m", "links") if shutil.which(it)]
+SOFT_HYPHEN = "\u00ad"
 # What pandoc draws tables with.
 RULES = set("-=+|:")
 # What pandoc writes in the place of a table that it cannot draw.
@@ -57,7 +58,8 @@ def run(command, text=None, **environment):
 
 
 def characters(text):
-    return Counter(text) - Counter({it: text.count(it) for it in set(text) if it.isspace()})
+    """How often each character stands in a text, without white space and hyphens that are shown at line ends alone."""
+    return Counter({it: count for it, count in Counter(text).items() if not it.isspace() and it != SOFT_HYPHEN})
 
 
 def without_rules(counts):

@@ -7,13 +7,13 @@
 # is read. Each is laid out on 40, 60, 80 and 120 columns in the style `compact`, and w3m and links lay out the same
 # file, with line breaks between paragraphs, where they would write empty lines. Prints for each folder how many tables
 # it took, then for each width and program: the pages that fit, the characters lost, the lines of those pages that fit
-# in all, and the seconds of all runs. Where whole words do not fit, `tablelayout` breaks them, as the filter
-# does, and the pages with broken words are counted too.
+# in all, and the seconds of all runs. Where whole words do not fit, `tablelayout` breaks them, as the filter does, and
+# the pages with broken words are counted too.
 #
 # A character is lost that stands in what pandoc itself writes of the table, or of one of its cells, and not on the
-# page. At last the filter goes over the whole documents on 72 columns. Fails if a page loses a character, or if below
-# 99 of 100 tables of which a layout fits are laid out. Needs pandoc and the program, which it does not build; w3m and
-# links are left out where they are missing.
+# page; white space and soft hyphens do not count. At last the filter goes over the whole documents on 72 columns.
+# Fails if a page loses a character, or if below 99 of 100 tables of which a layout fits are laid out. Needs pandoc and
+# the program, which it does not build; w3m and links are left out where they are missing.
 set -euo pipefail
 here=$(dirname "$(readlink -f "${BASH_SOURCE[0]}")")
 exec python3 "$here/real.py" "$@"

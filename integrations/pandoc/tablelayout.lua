@@ -308,6 +308,7 @@ end
 -- The first words of a table, to name it by.
 local function first_words(html)
     local words = html:gsub("<[^>]*>", " "):gsub(BLANK, " "):gsub("%s+", " "):gsub("^ ", ""):gsub(" $", "")
+    words = words:gsub("&lt;", "<"):gsub("&gt;", ">"):gsub("&amp;", "&")
     local past = utf8.offset(words, 41)
     return past and words:sub(1, past - 1) .. ".." or words
 end
