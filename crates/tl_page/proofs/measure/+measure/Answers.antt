@@ -15,10 +15,13 @@ use Rattle.tl_table.proofs.SoundParts.{sound_cells, sound_blocks, at_item}
 use Rattle.tl_page.specs.inner.Taking.{TakesBlock, TakesCell, TakesTable}
 use Rattle.tl_page.proofs.Taking.{paragraph-takes, paragraph-too-wide, nested-takes, nested-fits-none, blocks_taken-none}
 use Rattle.tl_page.proofs.Taking.{blocks_taken-more, blocks_taken-stuck, blocks_taken-high, blocks_taken-all}
-use Rattle.tl_page.proofs.Taking.{cells_taken-more, cells_taken-stuck, cells_taken-over, cells_taken-all}
+use Rattle.tl_page.proofs.Taking.{cells_taken-none, cells_taken-more, cells_taken-stuck, cells_taken-over, cells_taken-all}
+use Rattle.tl_page.proofs.Taking.{table-none}
 use Rattle.tl_page.proofs.Fitting.{sound_table}
 use Rattle.tl_page.proofs.Progress.{placed_cell}
 use Rattle.tl_page.proofs.measure.+measure.Goals as goal
+use Rattle.tl_page.proofs.measure.+measure.Goals.{height_in-then-widths-table-via-then-widths-table}
+use Rattle.tl_page.proofs.measure.+measure.Goals.{height_in-then-widths-table-via-else-widths-table+then-heights-table}
 
 -- ---- blocks
 
@@ -282,3 +285,17 @@ height_in-returns-clause-takes t c =
     (omega (arith, width, c.if-total_size-from.false, c.from.ensures))
     (subst (λ items. length items ≤ c.loop-cell.cell-index) c.as_slice-cell-items.ensures c.loop-cell-test.false)
     (omega (arith, c.if-next-len.false, c.len.ensures)) c.loop-cell.invariant)
+
+pub height_in-loop-cell-init : goal.height_in-loop-cell-init
+height_in-loop-cell-init t c =
+    cells_taken-none c.args.style (out-Layout c.args.layout.now) (out-Table c.args.table.now).cells
+
+pub height_in-returns-then-widths-table-clause-takes : goal.height_in-returns-then-widths-table-clause-takes
+height_in-returns-then-widths-table-clause-takes t c =
+    table-none c.args.style c.args.width c.args.table.now c.args.layout.now (λ level height fits.
+    elim c.then-widths-table.branch [
+      | height_in-then-widths-table-via-then-widths-table w ↦
+          omega (arith, w.if-widths-table, fits.columns, ap length c.as_slice-widths.ensures)
+      | height_in-then-widths-table-via-else-widths-table+then-heights-table w ↦
+          omega (arith, w.if-heights-table, fits.rows, ap length c.as_slice-heights.ensures)
+    ])
