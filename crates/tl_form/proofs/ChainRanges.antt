@@ -128,7 +128,7 @@ chains-writable (suc depth) table style chains weight sound few is = (
   own = few table (inl refl)
 
   sounds : AllByRecursion IsSound (inner_tables (out-Table table))
-  sounds = sound_inner table sound.depth sound.shallow sound.sound sound.few_tables sound.size
+  sounds = sound_inner table sound
 
   low : AllByRecursion (λ nested. (out-Table nested).number < MAX_TABLES) (inner_tables (out-Table table))
   low = AllByRecursion-weaker IsSound (λ nested. (out-Table nested).number < MAX_TABLES) (inner_tables (out-Table table))
