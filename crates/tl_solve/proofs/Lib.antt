@@ -15,3 +15,4 @@ pub mod Agreeing
 mod EndLaws
 mod TraceEndLaws
 pub mod WalkLaws
+pub mod PieceLaws

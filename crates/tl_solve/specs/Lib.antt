@@ -8,4 +8,5 @@ pub mod Ends
 pub mod TraceEnds
 pub mod Plain
 pub mod Piece
+pub mod Laws
 pub mod inner

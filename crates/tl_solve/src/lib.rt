@@ -6,6 +6,7 @@
 
 mod arena;
 mod ending;
+mod laws;
 mod lines;
 mod log;
 mod looks;
@@ -19,6 +20,7 @@ mod trace_ending;
 mod zones;
 
 pub use arena::{Arena, first_open};
+pub use laws::pieces_leave_nothing_lower;
 pub use lines::cuts_of_zones;
 pub use log::trace_log;
 pub use outcome::Outcome;
