@@ -1,5 +1,5 @@
 -- How a piece goes on: its zone before any cut, a zone of the stack that is closed, left or cut, and the end.
-use Rattle.std.proofs.Common.{◌≡◌, ◌≢◌, ℕ, ◌+◌, ◌*◌, ◌<◌, ◌≤◌, ◌⊎◌, inl, inr, List, [], ◌∷◌, ◌++◌, length, map, get_or}
+use Rattle.std.proofs.Common.{◌≡◌, ◌≢◌, ℕ, ◌+◌, ◌*◌, ◌<◌, ◌≤◌, ◌⊎◌, inl, inr, List, [], ◌∷◌, ◌++◌, length, get_or}
 use Rattle.std.proofs.Common.{Option, Some, None, refl, sym, ap, ◌∙◌, subst, arith, length-append}
 use Rattle.std.specs.List.{All, AllPairs, Contains}
 use Rattle.std.specs.Option.{IfSome}
@@ -15,18 +15,17 @@ use Rattle.tl_problem.specs.Sound.{IsSound}
 use Rattle.tl_problem.specs.Agreement.{HasOneClass}
 use Rattle.tl_problem.specs.Zones.{range_at, IsZone, InZone, lower_part, upper_part}
 use Rattle.tl_problem.specs.Bounds.{HasNoWidths, IsBound}
-use Rattle.tl_problem.specs.Placements.{IsPlacementIn}
 use Rattle.tl_problem.specs.Tight.{IsTight}
 use Rattle.tl_problem.proofs.BoundLaws.{bound-below_placement}
 use Rattle.tl_problem.proofs.ZoneLaws.{lower-is_zone, upper-is_zone}
 use Rattle.tl_cert.specs.declared.trace.CutAt.{CutAt}
-use Rattle.tl_cert.specs.Traces.{zone_at, IsZoneOf, Stands, IsCut, IsTrace, IsKeen}
+use Rattle.tl_cert.specs.Traces.{zone_at, IsZoneOf, Stands, IsCut, IsKeen}
 use Rattle.tl_cert.specs.Worked.{IsClosedZone}
 use Rattle.tl_cert.proofs.TraceLaws.{zone-old, zone-lower, zone-upper, zone-cases, stands-old, stood-before, stands-new}
 use Rattle.tl_cert.proofs.TraceLaws.{cuts-there, trace-push}
 use Rattle.tl_solve.specs.Arenas.{IsBoundFound, IsLookedAt}
 use Rattle.tl_solve.specs.Orders.{IsFirstCut}
-use Rattle.tl_solve.specs.Piece.{final_height, HasBoundIn, AreLeft, IsPieceOf}
+use Rattle.tl_solve.specs.Piece.{final_height, HasBoundIn, IsPieceOf}
 use Rattle.tl_solve.proofs.Agreeing.{one_class-differ}
 use Rattle.tl_solve.proofs.ArenaLaws.{looked-lower}
 use Rattle.tl_solve.proofs.Opening.{placement_in-unique}
@@ -34,7 +33,7 @@ use Rattle.tl_solve.proofs.WalkLaws.{closed-lower, pairs-init, pairs-last}
 use Rattle.tl_branch.specs.declared.lowest.Lowest.{Lowest}
 use Rattle.tl_branch.specs.declared.under_way.Waiting.{Waiting}
 use Rattle.tl_branch.specs.declared.under_way.UnderWay.{UnderWay}
-use Rattle.tl_branch.specs.inner.UnderWay.{IsFoundLower, IsReplaced, IsWaitingIn, IsBegun, IsCutApart, IsUnderWay, with_waiting, numbers}
+use Rattle.tl_branch.specs.inner.UnderWay.{IsFoundLower, IsWaitingIn, IsBegun, IsCutApart, IsUnderWay, with_waiting, numbers}
 
 -- ---- what was found
 
