@@ -6,3 +6,5 @@ pub mod Putting
 pub mod Examples
 pub mod Adding
 pub mod ClosingLaws
+pub mod GroupLaws
+pub mod FirstLaws

@@ -1,5 +1,6 @@
 -- What a store keeps of a problem: nogoods by their numbers, each once, with their bounds in order.
-use Rattle.std.specs.Prelude.{◌≡◌, ◌⊎◌, ◌↔◌, ℕ, ◌+◌, ◌*◌, ◌^◌, ◌<◌, ◌≤◌, List, [], ◌∷◌, ◌++◌, length, get_or, map}
+use Rattle.std.specs.Prelude.{◌≡◌, ◌⊎◌, ◌↔◌, ℕ, ◌+◌, ◌*◌, ◌^◌, ◌<◌, ◌≤◌, List, [], ◌∷◌, ◌++◌, Option, None, Some, length, get_or, map}
+use Rattle.std.specs.Prelude.{IfSome}
 use Rattle.std.specs.List.{All, AllPairs, Contains}
 use Rattle.tl_problem.specs.Problem.{ProblemModel}
 use Rattle.tl_problem.specs.Spans.{spans_of}
@@ -8,6 +9,7 @@ use Rattle.tl_cert.specs.declared.log.Bound.{Bound}
 use Rattle.tl_cert.specs.declared.log.Side.{Side}
 use Rattle.tl_cert.specs.declared.log.Side.TheVariants.{Most, Least}
 use Rattle.tl_cert.specs.Implied.{Implied}
+use Rattle.tl_store.specs.declared.groups.Group.{Group}
 use Rattle.tl_store.specs.declared.store.Store.{Store}
 
 -- ---- the order of bounds
@@ -34,14 +36,40 @@ HaveSame first second = (bound : Bound) → Contains first bound ↔ Contains se
 abbrev pub nogoods_of : Store → List (List Bound)
 nogoods_of store = map (λ key. key.items) store.kept.keys
 
+-- the bound that the nogoods of a group have is one of these; a group without one is that of no bounds
+abbrev pub IsHeadOf : Option Bound → List Bound → Type 0
+IsHeadOf None bounds = bounds ≡ []
+IsHeadOf (Some bound) bounds = Contains bounds bound
+
+-- the group has the nogood with these bounds, under this number
+pub record IsListedBy (group : Group) (bounds : List Bound) (number : ℕ) : Type 0 where
+  pub head : IsHeadOf group.head bounds
+  pub has : Contains group.numbers.items number
+
+-- one of the groups has the nogood
+pub record IsListed (groups : List Group) (bounds : List Bound) (number : ℕ) : Type 0 where
+  pub group : Group
+  pub there : Contains groups group
+  pub listed : IsListedBy group bounds number
+
+-- each nogood is in a group, under its number
+abbrev pub AreListed : List Group → List (List Bound) → Type 0
+AreListed groups nogoods = (k : ℕ) → k < length nogoods → IsListed groups (get_or nogoods k []) k
+
+-- the bounds of the groups are on spans below a count
+abbrev pub AreOnSpans : ℕ → List Group → Type 0
+AreOnSpans count groups = All (λ group. IfSome group.head (λ bound. bound.span < count)) groups
+
 -- the store is one of this problem: it leaves the widths within the page, with room for a mark; its nogoods are on spans
--- that are there, and each has its bounds in order and once
+-- that are there, and each has its bounds in order and once, and is in a group
 pub record IsStoreOf (problem : ProblemModel) (store : Store) : Type 0 where
   pub page : HasPage problem store.work
   pub mark : length store.work.matrix.held < store.work.matrix.marks
   pub spans : All (All (λ bound. bound.span < length (spans_of problem))) (nogoods_of store)
   pub sorted : All (AllPairs BoundComesFirst) (nogoods_of store)
   pub few : length (nogoods_of store) < 2 ^ 32
+  pub heads : AreOnSpans (length (spans_of problem)) store.groups.items
+  pub listed : AreListed store.groups.items (nogoods_of store)
 
 -- a nogood was put into the store under this number: the first one with the same bounds keeps its number and the store stays
 -- as it was; where there is none the nogood comes last

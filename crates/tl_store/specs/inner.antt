@@ -1,2 +1,3 @@
 -- What the private functions promise one another. No public clause cites it.
 pub mod Passes
+pub mod Closings

@@ -69,7 +69,7 @@ fn is_at(key: &[Bound], place: usize, bound: Bound) -> bool
 }
 
 /// Whether the bounds are one.
-fn is_same(one: Bound, other: Bound) -> bool
+pub fn is_same(one: Bound, other: Bound) -> bool
     ensures { IsTrue result ↔ (one ≡ other) }
 {
     one == other

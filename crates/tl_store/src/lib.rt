@@ -5,6 +5,7 @@
 #![tactic(auto)]
 
 mod closing;
+mod groups;
 mod keys;
 mod shrinking;
 mod store;

@@ -10,6 +10,7 @@ ghost use Rattle.tl_store.specs.Stores.{IsAddedNogood, IsFirstClosing, IsStoreOf
 ghost use Rattle.tl_store.specs.Shrunk.{IsShrunk};
 
 use crate::closing::first_closing;
+use crate::groups::{Group, list_new};
 use crate::keys::{bounds_of, key_of};
 use crate::shrinking::shrink_line;
 use indexmap::IndexSet;
@@ -29,6 +30,8 @@ pub struct Store {
     work: Work,
     /// The bounds of each nogood, in order and each once.
     kept: IndexSet<Vec<Bound>>,
+    /// Their numbers, in groups by the last bound.
+    groups: Vec<Group>,
 }
 
 impl Drop for Store {
@@ -38,6 +41,7 @@ impl Drop for Store {
             checker: _checker,
             work: _work,
             kept: _kept,
+            groups: _groups,
         } = self;
     }
 }
@@ -57,6 +61,7 @@ impl Store {
             checker,
             work,
             kept: IndexSet::new(alloc),
+            groups: Vec::new(alloc),
         })
     }
 
@@ -82,11 +87,13 @@ impl Store {
         }
         let bounds = bounds_of(self.alloc, problem, trace, &line.nogood)?;
         let key = key_of(self.alloc, bounds.as_slice())?;
+        list_new(self.alloc, &mut self.groups, &self.kept, &key)?;
         let (number, _is_new) = self.kept.insert_full(key)?;
         Ok(number as u32)
     }
 
-    /// The first nogood of which all bounds are implied by the widths in the zone.
+    /// The first nogood of which all bounds are implied by the widths in the zone. It looks at no nogood whose last
+    /// bound is not implied.
     pub fn closes(&mut self, problem: &Problem, zone: &Zone) -> Option<u32>
         requires store { IsStoreOf problem.now self.old }
         requires zone { IsZone problem.now zone.now }
@@ -98,7 +105,12 @@ impl Store {
     {
         self.work.matrix.mark();
         keep_ranges(problem, zone, &mut self.work.matrix);
-        let found = first_closing(problem, self.kept.as_slice(), &self.work.matrix);
+        let found = first_closing(
+            problem,
+            self.kept.as_slice(),
+            &self.groups,
+            &self.work.matrix,
+        );
         self.work.matrix.undo();
         found
     }

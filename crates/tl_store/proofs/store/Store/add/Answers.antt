@@ -10,21 +10,49 @@ use Rattle.tl_cert.specs.contracts.log.BoundPartialEq.TheImpl.{ghosts}
 use Rattle.tl_cert.specs.declared.log.Bound.{Bound}
 use Rattle.tl_cert.specs.Nogoods.{nogood_bounds}
 use Rattle.tl_check.proofs.Spans.{nogood-span}
-use Rattle.tl_store.specs.Stores.{BoundComesFirst, HaveSame}
+use Rattle.tl_store.specs.Stores.{BoundComesFirst, HaveSame, nogoods_of}
 use Rattle.tl_store.proofs.Adding.{is-added, all-inserted, few-inserted}
+use Rattle.tl_store.proofs.GroupLaws.{all-listed, listed-inserted}
 use Rattle.tl_store.proofs.BoundEq.{bound_eq-decides}
 use Rattle.tl_store.proofs.store.Store.add.Goals as goal
 
-pub returns-in_err-number-clause-store : goal.returns-in_err-number-clause-store
-returns-in_err-number-clause-store c =
+pub returns-in_err-list_new-clause-store : goal.returns-in_err-list_new-clause-store
+returns-in_err-list_new-clause-store c =
+    let p = c.args.problem.now in
     let old = c.requires.store in
-    let same : c.insert_full.new.self.keys ≡ c.args.self.now.kept.keys = c.in_err-number.ensures.err in
+    let same = subst (λ (l : List Bound). HaveSame l c.in_ok-key.key.items) (c.as_slice.ensures ∙ c.in_ok-bounds.ensures)
+    c.in_ok-key.ensures.same in
     record {
       page = old.page;
       mark = old.mark;
-      spans = rw same old.spans;
-      sorted = rw same old.sorted;
-      few = rw same old.few;
+      spans = old.spans;
+      sorted = old.sorted;
+      few = old.few;
+      heads = c.list_new.ensures.spans (length (spans_of p)) old.heads (λ bound has. nogood-span p old.page.work_of.sound
+          c.args.trace.now c.requires.trace c.args.line.now.nogood c.requires.names bound
+          ((same bound).1 (rw c.deref.ensures.value at has)));
+      listed = all-listed c.args.self.now.groups.items c.list_new.new.groups.items (nogoods_of c.args.self.now)
+          c.list_new.ensures.more old.listed;
+    }
+
+pub returns-in_err-number-clause-store : goal.returns-in_err-number-clause-store
+returns-in_err-number-clause-store c =
+    let p = c.args.problem.now in
+    let old = c.requires.store in
+    let kept : c.insert_full.new.self.keys ≡ c.args.self.now.kept.keys = c.in_err-number.ensures.err in
+    let same = subst (λ (l : List Bound). HaveSame l c.in_ok-key.key.items) (c.as_slice.ensures ∙ c.in_ok-bounds.ensures)
+    c.in_ok-key.ensures.same in
+    record {
+      page = old.page;
+      mark = old.mark;
+      spans = rw kept old.spans;
+      sorted = rw kept old.sorted;
+      few = rw kept old.few;
+      heads = c.list_new.ensures.spans (length (spans_of p)) old.heads (λ bound has. nogood-span p old.page.work_of.sound
+          c.args.trace.now c.requires.trace c.args.line.now.nogood c.requires.names bound
+          ((same bound).1 (rw c.deref.ensures.value at has)));
+      listed = rw kept (all-listed c.args.self.now.groups.items c.list_new.new.groups.items (nogoods_of c.args.self.now)
+          c.list_new.ensures.more old.listed);
     }
 
 pub returns-clause-added : goal.returns-clause-added
@@ -63,4 +91,10 @@ returns-clause-store c =
         c.len.ensures.len,
         length-map keys (λ k. k.items),
       );
+      heads = c.list_new.ensures.spans (length (spans_of p)) old.heads (λ bound has. nogood-span p old.page.work_of.sound trace
+          c.requires.trace line.nogood c.requires.names bound ((same bound).1 (rw c.deref.ensures.value at has)));
+      listed = listed-inserted (λ k. k.items) (λ a b. pointwise ghosts.eq a.items b.items) keys key c.list_new.new.groups.items
+          (all-listed c.args.self.now.groups.items c.list_new.new.groups.items (nogoods_of c.args.self.now)
+          c.list_new.ensures.more old.listed)
+          (rw c.deref.ensures.value at c.in_ok-list_new.ensures.listed) new c.in_ok-number.ensures.keys;
     }

@@ -13,6 +13,12 @@ first_closing-found-requires-clause-spans c = rw c.as_slice.ensures.keys
     (all-from_map (All (λ bound. bound.span < length (spans_of c.args.problem.now))) (λ key. key.items)
     c.args.self.now.kept.keys c.requires.store.spans)
 
+pub first_closing-found-requires-clause-heads : goal.first_closing-found-requires-clause-heads
+first_closing-found-requires-clause-heads c = rw c.deref.ensures.value c.requires.store.heads
+
+pub first_closing-found-requires-clause-listed : goal.first_closing-found-requires-clause-listed
+first_closing-found-requires-clause-listed c = rw (c.deref.ensures.value, c.as_slice.ensures.keys) c.requires.store.listed
+
 pub returns-clause-closes : goal.returns-clause-closes
 returns-clause-closes c =
     let p = c.args.problem.now in
