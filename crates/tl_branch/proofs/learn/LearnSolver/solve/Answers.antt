@@ -80,6 +80,9 @@ cut-requires-clause-cut c =
     (search-grown p l mid (stack ++ z ∷ []) is c.in_ok-close.ensures.learning c.in_ok-close.ensures.grown going)
     c.in-Some-first_cut.cut c.in-Some-first_cut.ensures.first c.in-Some-first_cut.ensures.zone
 
+pub cut-requires-clause-going : goal.cut-requires-clause-going
+cut-requires-clause-going c = c.in_ok-close.ensures.going c.if-branch.false
+
 pub cut-requires-clause-unclosed : goal.cut-requires-clause-unclosed
 cut-requires-clause-unclosed c =
     let p = c.args.problem.now in
