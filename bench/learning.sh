@@ -1,9 +1,10 @@
 #!/usr/bin/env bash
-# How many cuts the three searches make, and how long `lay` takes by each, with the start of the process: on the twenty
-# tables of `demo 0` to `demo 19` on 60 columns, on five tables of 30 rows over 8 columns, on 80, and on examples/cuts.html,
-# on 25; each with a budget of 5,000. Builds the program where it is missing. Prints for each table and search the cuts, the
-# milliseconds and what is said. Fails where two searches find different lowest heights, where one says that a page is the
-# lowest and another one finds a lower one, or where a search that learns takes more than 5 seconds.
+# How many cuts the three searches make, and how long `lay` takes by each, with the start of the process, each with a budget
+# of 5,000: on the twenty tables of `demo 0` to `demo 19` on 60 columns, on five tables of 30 rows over 8 columns, on 80 and
+# on 90, where the budget is spent, and on examples/cuts.html, on 25. Builds the program where it is missing. Prints for each
+# table and search the cuts, the milliseconds and what is said. Fails where two searches find different lowest heights, where
+# one says that a page is the lowest and another one finds a lower one, or where a search that learns takes more than 5
+# seconds.
 set -euo pipefail
 here=$(dirname "$(readlink -f "${BASH_SOURCE[0]}")")
 "$here/../tablelayout" lay 7 "$here/../examples/first.html" /dev/stdout >/dev/null
@@ -42,6 +43,10 @@ done
 for number in 1 2 3 4 5; do
     "$here/drawn.sh" "$number" 8 >"$files/eight$number.html"
     compare "eight$number" 80
+done
+for number in 1 2 3 4 5; do
+    "$here/drawn.sh" "$number" 8 >"$files/wide$number.html"
+    compare "wide$number" 90
 done
 cp "$here/../examples/cuts.html" "$files/cuts.html"
 compare cuts 25
