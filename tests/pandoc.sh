@@ -1,7 +1,7 @@
 #!/usr/bin/env bash
 # Runs the filter for pandoc on a document for each reader, and where a table cannot be laid out. What has to come out was
-# drawn by hand, as pandoc 2.17 reads the documents, and stands in pandoc/. If all is so this prints nothing, but for what
-# is skipped.
+# drawn by hand, as pandoc 2.17 to 3.11 read the documents, and stands in pandoc/. If all is so this prints nothing, but
+# for what is skipped.
 set -uo pipefail
 top=$(dirname "$(dirname "$(readlink -f "${BASH_SOURCE[0]}")")")
 # shellcheck source=tests/common.bash
@@ -26,11 +26,17 @@ with_filter() {
 with_filter ships.html 2>&1 | expect html.txt "of HTML"
 with_filter ships.md 2>&1 | expect markdown.txt "of markdown"
 with_filter ships.tex 2>&1 | expect latex.txt "of LaTeX"
-sed 's/<img[^>]*>//' ships.html | pandoc -f html -o "$room/made/ships.docx"
+sed 's/<img[^>]*>//; s/<hr>//; /<caption>/d' ships.html | pandoc -f html -o "$room/made/ships.docx"
 with_filter "$room/made/ships.docx" 2>&1 | expect docx.txt "of docx"
-pandoc ships.md -o "$room/made/ships.odt"
-with_filter "$room/made/ships.odt" 2>&1 | expect odt.txt "of odt"
+pandoc berths.md -o "$room/made/berths.odt"
+with_filter "$room/made/berths.odt" --columns 30 2>&1 | expect odt.txt "of odt"
 with_filter ships.md -t markdown 2>&1 | expect code.txt "as markdown"
+
+if pandoc --list-output-formats | grep -qx ansi; then
+    with_filter -t ansi columns.md 2>&1 | sed 's/\x1b\[[0-9;]*m//g; s/\x1b\]8;;\x1b\\//g' | expect ansi.txt "as ansi"
+else
+    skip "pandoc writes no ansi, so that is not tried"
+fi
 
 # Settings.
 with_filter columns.md -M tablelayout-style=frame 2>&1 | expect frame.txt "in a frame"

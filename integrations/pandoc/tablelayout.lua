@@ -14,7 +14,7 @@ local STATUS_LOWEST, STATUS_BOUNDED, STATUS_NARROW = 0, 3, 4
 -- A noncharacter, which no text has. It stands for a space at which no line breaks.
 local BLANK = "\u{FDD0}"
 local REPLACEMENT = "\u{FFFD}"
--- A page is raw text where pandoc writes text itself, and a block of code where it writes markdown.
+-- A page is text where pandoc writes text itself, and a block of code where it writes markdown.
 local TEXT_FORMATS = { plain = true, ansi = true }
 local MARKDOWN_FORMATS = { commonmark = true, commonmark_x = true, gfm = true }
 local STYLES = { "plain", "compact", "frame" }
@@ -397,10 +397,15 @@ local lay_out_blocks
 -- In markdown the notes of all tables are counted together.
 local table_notes = no_notes()
 
+-- A page as text. Where pandoc writes no raw text, it is a paragraph of one word.
+local function text_block(page)
+    return FORMAT == "plain" and pandoc.RawBlock("plain", page) or pandoc.Para({ pandoc.Str(page) })
+end
+
 local function lay_out_table(block, width)
     if is_text then
         local page = page_of(block, width)
-        return { page and pandoc.RawBlock(FORMAT, page) or block }
+        return { page and text_block(page) or block }
     end
     local notes = { count = table_notes.count, blocks = pandoc.List({}) }
     local numbered = number_notes(pandoc.Blocks({ block }), notes)[1]
