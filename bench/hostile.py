@@ -1,17 +1,17 @@
 #!/usr/bin/env python3
 """Runs the program on files that nobody should send, each made from a number.
 
-    bench/hostile.py [FIRST [COUNT]]
+    bench/hostile.sh [FIRST [COUNT]]
 
 The files are valid tables that are cut, spliced and changed byte by byte, tables nested to the limit and past it,
-attributes of a megabyte, cells that overlap, long words, combining characters alone, tags in any order, and
-certificates with lines changed, exchanged, repeated and left out. Each is made from its number alone, so what fails
-can be made again. Builds nothing: the program has to be built.
+attributes of a megabyte, cells that overlap, long words, combining characters alone, tags in any order, CSV files
+and changes of them, and certificates with lines changed, exchanged, repeated and left out. Each is made from its
+number alone, so what fails can be made again. Builds nothing: `bench/hostile.sh` does.
 
-No run may end by a signal or with a status that the manual does not have, take 10 seconds or 200 megabytes, or leave
-another file than the manual says. What `lay` stored has to be accepted by `check`, and the second page of the same
-file has to be the first. Prints for each kind of file how often each status came, and at last the slowest and the
-largest run; ends with 1 where something failed, which it names.
+No run may end by a signal or with a status that the manual does not have, take 10 seconds of a processor or 200
+megabytes, or leave another file than the manual says. What `lay`, `narrow` and `tidy` stored has to be accepted by
+`check`, and the second page of the same file has to be the first. Prints for each kind of file how often each status came, and at last the
+slowest and the largest run; ends with 1 where something failed, which it names.
 """
 import os
 import random
@@ -19,7 +19,6 @@ import resource
 import subprocess
 import sys
 import tempfile
-import time
 from collections import Counter, defaultdict
 from pathlib import Path
 
@@ -27,8 +26,14 @@ TOP = Path(__file__).resolve().parent.parent
 PROGRAM = TOP / "crates" / "tl_program" / "out" / "tl_program"
 MOST_SECONDS = 10
 MOST_KILOBYTES = 200 * 1024
-LAID, CHECKED = {0, 2, 3, 4, 5, 6, 7}, {0, 2, 3, 4, 5, 6, 7, 10}
-STORES_PAGE, STORES_CERTIFICATE = {0, 3}, {0, 3, 4}
+CHECKED = {0, 3, 4, 10}
+# What may be stored at each status of a command on a file, and what has to be.
+NONE, PAGE, CERT, LESS, SPENT = set(), {"page"}, {"cert"}, {"less"}, {"spent"}
+STORED = {
+    "lay": {0: (PAGE | CERT, NONE), 3: (PAGE | CERT, NONE), 4: (CERT, NONE), 5: (NONE, NONE), 6: (NONE, NONE)},
+    "narrow": {0: (PAGE | CERT, LESS), 3: (SPENT, PAGE | CERT | LESS), 5: (NONE, NONE), 6: (NONE, NONE), 12: (LESS, NONE)},
+    "tidy": {0: (PAGE | CERT, LESS), 3: (PAGE | CERT, LESS | SPENT), 4: (CERT, NONE), 5: (NONE, NONE), 6: (NONE, NONE)},
+}
 TAGS = ["table", "tr", "td", "th", "caption", "thead", "tbody", "tfoot", "colgroup", "col", "p", "div", "br", "b", "html", "body"]
 TEXTS = ["a", "aa bb", "x&amp;y", "&#x4e00;&#x4e8c;", "&nbsp;", "\u0301\u0301", "\ud55c\uae00", "<!-- c -->", " ", "&", "<", "&#0;", "\u202e"]
 
@@ -58,7 +63,7 @@ def table(rng, depth=0):
 def changed(rng, data):
     """The bytes with some of them replaced, put in, taken away or repeated."""
     data = bytearray(data)
-    for _ in range(rng.randint(1, 8)):
+    for _ in range(rng.choice((1, 1, 2, 8))):
         if not data:
             break
         at, length = rng.randrange(len(data)), rng.randint(1, 20)
@@ -100,9 +105,14 @@ def overlapping(rng):
     return ("<table>" + "<tr>".join(cells[i:i + 400] for i in range(0, len(cells), 400)) + "</table>").encode()
 
 
+def tables(rng):
+    inner = "<table><tr><td>" + words(rng) + "</table>"
+    return ("<table>" + f"<tr><td>{inner}" * rng.randint(190, 205) + "</table>").encode()
+
+
 def long_words(rng):
-    columns = rng.randint(55, 62)
-    return ("<table><tr>" + "".join(f"<td>{'w' * rng.randint(1, 9)}" for _ in range(columns)) + "</table>").encode()
+    columns, letters = rng.randint(55, 62), rng.choice((6, 9, 100, 10_000))
+    return ("<table><tr>" + "".join(f"<td>{'w' * rng.randint(1, letters)}" for _ in range(columns)) + "</table>").encode()
 
 
 def combining(rng):
@@ -130,8 +140,28 @@ def valid(rng):
     return table(rng).encode()
 
 
-KINDS = [valid, cut, spliced, cells, soup, nested, long_words, combining, overlapping, attribute, many_rows]
-OFTEN = [6, 4, 4, 6, 6, 2, 2, 1, 1, 1, 1]
+def field(rng):
+    text = rng.choice((words(rng), "", "<td>", 'a ""b""', "c,d", "e\r\nf", "\u0301", "w" * rng.randint(1, 600)))
+    return f'"{text}"' if rng.random() < 0.7 or "," in text or "\n" in text else text
+
+
+def csv_file(rng):
+    fields, end = rng.choice((1, 2, 5, 60, 61)), rng.choice(("\n", "\r\n"))
+    records = (",".join(field(rng) for _ in range(fields)) for _ in range(rng.choice((1, 3, 20))))
+    return (rng.choice(("", "\ufeff")) + end.join(records)).encode()
+
+
+def csv_changed(rng):
+    return changed(rng, csv_file(rng))
+
+
+def csv_long(rng):
+    return rng.choice((b"a\n" * rng.randint(1, 3000), b"," * rng.randint(1, 30_000), b'"' * rng.randint(1, 9), b"," * 9 + b"\n" * 2500))
+
+
+CSV_KINDS = [csv_file, csv_changed, csv_long]
+KINDS = [valid, cut, spliced, cells, soup, nested, tables, long_words, combining, overlapping, attribute, many_rows, *CSV_KINDS]
+OFTEN = [6, 4, 4, 6, 6, 2, 1, 2, 1, 1, 1, 1, 3, 3, 1]
 
 
 def changed_lines(rng, text):
@@ -151,11 +181,14 @@ def changed_lines(rng, text):
     return b"\n".join(lines)
 
 
-def options(rng):
+def options(rng, make):
+    """The options of a layout that its check needs too, without the budget."""
     found = []
-    for name, values in (("--style", ("plain", "compact", "frame")), ("--break", ("words", "any")), ("--budget", ("0", "1", "20", "500"))):
+    for name, values in (("--style", ("plain", "compact", "frame")), ("--break", ("words", "any")), ("--workers", ("2", "16"))):
         if rng.random() < 0.4:
             found += [name, rng.choice(values)]
+    if make in CSV_KINDS:
+        found += ["--csv"] + ["--head"] * rng.randint(0, 1) + rng.choice(([], ["--least", "5,0,12"]))
     return found
 
 
@@ -173,41 +206,53 @@ class Runs:
 
     def run(self, number, kind, arguments, wanted):
         """Runs the program, and gives its status, or None where it failed."""
-        begun = time.monotonic()
         process = subprocess.Popen([PROGRAM, *arguments], cwd=self.folder, stdout=subprocess.DEVNULL, stderr=subprocess.DEVNULL,
                                    preexec_fn=lambda: resource.setrlimit(resource.RLIMIT_CPU, (MOST_SECONDS, MOST_SECONDS + 1)))
         _, ended, used = os.wait4(process.pid, 0)
         process.returncode = status = -os.WTERMSIG(ended) if os.WIFSIGNALED(ended) else os.WEXITSTATUS(ended)
-        self.slowest = max(self.slowest, (time.monotonic() - begun, f"file {number}, {kind}"))
+        seconds = used.ru_utime + used.ru_stime
+        self.slowest = max(self.slowest, (seconds, f"file {number}, {kind}"))
         self.largest = max(self.largest, (used.ru_maxrss, f"file {number}, {kind}"))
         self.statuses[kind][status] += 1
         if status not in wanted:
             self.fail(number, f"status {status}", arguments)
-        if used.ru_utime + used.ru_stime > MOST_SECONDS or used.ru_maxrss > MOST_KILOBYTES:
-            self.fail(number, f"{used.ru_utime:.1f} s, {used.ru_maxrss // 1024} MB", arguments)
+        if seconds > MOST_SECONDS or used.ru_maxrss > MOST_KILOBYTES:
+            self.fail(number, f"{seconds:.1f} s, {used.ru_maxrss // 1024} MB", arguments)
         return status
 
     def files(self):
         return {it.name: it.read_bytes() for it in self.folder.iterdir() if it.name not in ("in", "changed")}
 
-    def lay(self, number, rng, kind, width, chosen):
-        """Lays the file out twice, and checks what was stored and changes of it."""
-        first = self.run(number, kind, ["lay", width, "in", "page", "cert", *chosen], LAID)
+    def check(self, number, kind, name, given, wanted):
+        """Checks a certificate that was stored, on the page and with the budget that its first line names."""
+        _, _, width, _, budget = (self.folder / name).read_text().split("\n")[0].split()
+        return self.run(number, kind, ["check", width, "in", name, "--budget", budget, *given], wanted)
+
+    def lay(self, number, kind, command, given, searched):
+        """Carries a command on the file out twice, and checks each certificate that was stored."""
+        arguments = [command[0], command[1], "in", "page", "cert", *command[2:], *given, *searched]
+        whenever = STORED[command[0]]
+        first = self.run(number, kind, arguments, whenever)
         stored = self.files()
-        wanted = {name for name, when in (("page", STORES_PAGE), ("cert", STORES_CERTIFICATE)) if first in when}
-        if set(stored) != wanted:
-            self.fail(number, f"status {first} left {sorted(stored)}", ["lay", width, *chosen])
-        if first not in STORES_CERTIFICATE:
+        least, more = whenever.get(first, (set(), set()))
+        if not least <= set(stored) <= least | more:
+            self.fail(number, f"status {first} left {sorted(stored)}", arguments)
+        if not stored:
             return
-        if self.run(number, kind, ["lay", width, "in", "page", "cert", *chosen], LAID) != first or self.files() != stored:
-            self.fail(number, "the second run differs from the first", ["lay", width, *chosen])
-        if self.run(number, "check", ["check", width, "in", "cert", *chosen], CHECKED) != first:
-            self.fail(number, "the certificate is not accepted", ["check", width, *chosen])
-        for _ in range(3):
-            (self.folder / "changed").write_bytes(changed_lines(rng, stored["cert"]))
-            self.run(number, "changed certificate", ["check", width, "in", "changed", *chosen], CHECKED)
+        if self.run(number, kind, arguments, whenever) != first or self.files() != stored:
+            self.fail(number, "the second run differs from the first", arguments)
+        for name in set(stored) - PAGE:
+            self.check(number, "check", name, given, {0, 3, 4} if command[0] != "lay" else {first})
         if self.files() != stored:
-            self.fail(number, "a check stored something", ["check", width, *chosen])
+            self.fail(number, "a check stored something", arguments)
+
+    def change(self, number, rng, given):
+        """Checks changes of the certificate of a layout."""
+        text = (self.folder / "cert").read_bytes()
+        _, _, width, _, budget = text.decode().split("\n")[0].split()
+        for _ in range(3):
+            (self.folder / "changed").write_bytes(changed_lines(rng, text))
+            self.run(number, "changed certificate", ["check", width, "in", "changed", "--budget", budget, *given], CHECKED)
 
     def file(self, number):
         rng = random.Random(number)
@@ -215,13 +260,24 @@ class Runs:
         for it in self.folder.iterdir():
             it.unlink()
         (self.folder / "in").write_bytes(make(rng))
-        self.lay(number, rng, make.__name__.replace("_", " "), str(rng.choice((1, 3, 5, 9, 20, 40, 80, 500))), options(rng))
+        kind, width = make.__name__.replace("_", " "), str(rng.choice((1, 3, 9, 20, 40, 60, 80, 120, 500)))
+        given, searched = options(rng, make), rng.choice(([], ["--budget", rng.choice(("0", "1", "20", "500"))], ["--solver", "plain"],
+                                                          ["--solver", "learn", "--budget", "50"]))
+        self.lay(number, kind, ["lay", width], given, searched)
+        if (self.folder / "cert").exists():
+            self.change(number, rng, given)
+        if rng.random() < 0.3:
+            command = rng.choice((["narrow", str(rng.randint(0, 40))], ["tidy", width]))
+            for it in self.folder.iterdir():
+                if it.name != "in":
+                    it.unlink()
+            self.lay(number, kind, [*command, "less", "spent"], given, ["--budget", rng.choice(("0", "3", "50"))])
 
 
 def main():
     first, count = (int(it) for it in (sys.argv[1:] + ["0", "1000"][len(sys.argv) - 1:])[:2])
     if not PROGRAM.exists():
-        sys.exit("the program is not built: ./tablelayout lay builds it")
+        sys.exit("the program is not built: bench/hostile.sh builds it")
     with tempfile.TemporaryDirectory() as folder:
         runs = Runs(Path(folder))
         for number in range(first, first + count):
@@ -229,7 +285,8 @@ def main():
     for kind, statuses in sorted(runs.statuses.items()):
         print(f"{kind:20}", "  ".join(f"status {status}: {times}" for status, times in sorted(statuses.items())))
     print(f"slowest {runs.slowest[0]:.2f} s ({runs.slowest[1]}), largest {runs.largest[0] // 1024} MB ({runs.largest[1]})")
-    print("\n".join(runs.failures) or f"{count} files, none failed")
+    times = sum(sum(it.values()) for it in runs.statuses.values())
+    print("\n".join(runs.failures) or f"{count} files, {times} runs, none failed")
     sys.exit(1 if runs.failures else 0)
 
 
