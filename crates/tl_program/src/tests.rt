@@ -4,6 +4,7 @@ mod certificates;
 mod checks;
 mod csv;
 mod faults;
+mod hostile;
 mod limits;
 mod narrow;
 mod pages;

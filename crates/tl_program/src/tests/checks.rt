@@ -52,11 +52,11 @@ fn check_all(
 }
 
 /// No cut is needed: in 12 columns not both cells have one line.
-const CLOSED: &str =
+pub const CLOSED: &str =
     "tablelayout 1 12 plain 6\nlowest 2\nsection 0 12 2 2 0 1\nwidths 3 5\nz0 chain\nend\n";
 
 /// The command line that `CLOSED` is valid for, over `TWO`.
-const LINE: &str = "check 12 t.html c.txt --budget 6";
+pub const LINE: &str = "check 12 t.html c.txt --budget 6";
 
 /// Checks that each certificate is rejected with its message, for `LINE` over `TWO`.
 fn check_rejected(
