@@ -67,6 +67,7 @@ pub fn slimmest<R: Threads + Sync, M: Make, G: Gate>(
     maker: &M,
     gate: &G,
 ) -> Result<Slim, AllocError>
+    requires ready { M.can_make maker.now }
     requires workers { 1 ≤ workers }
     requires sound { IsSound table.now }
     requires cells { HasFewCells table.now }

@@ -155,6 +155,7 @@ pub fn tried<R: Threads + Sync, M: Make, G: Gate>(
     maker: &M,
     gate: &G,
 ) -> Result<Certificate, AllocError>
+    requires ready { M.can_make maker.now }
     requires workers { 1 ≤ workers }
     requires sound { IsSound table.now }
     requires some { 1 ≤ width }

@@ -18,15 +18,19 @@ use tl_problem::Problem;
 use tl_solve::{Outcome, Solver};
 use tl_table::Table;
 
-/// Makes solvers. What each outcome of a solver that it makes has besides is a meaning of the maker.
+/// Makes solvers. A maker has two meanings of its own: `can_make`, when it may be called, and `besides`,
+/// what each outcome of a solver that it makes has besides.
 pub trait Make: Sync {
     /// The solvers that are made.
     type Made: Solver;
+
+    ghost can_make: { Self → Type 0 } = { λ _. Unit {0} };
 
     ghost besides: { Self → ProblemModel → ℕ → Outcome → Type 0 };
 
     /// Makes a solver that can be called.
     fn make(&self, alloc: Global) -> Result<Self::Made, AllocError>
+        requires ready { can_make self.now }
         ensures callable { IfOk result (λ made. Self.Made.can_solve made) }
         ensures besides { IfOk result (λ made. (problem : ProblemModel) (budget : ℕ) (outcome : Outcome) →
             Self.Made.besides made problem budget outcome → besides self.now problem budget outcome) };
@@ -46,6 +50,7 @@ pub fn sections<R: Threads + Sync, M: Make, G: Gate>(
     maker: &M,
     gate: &G,
 ) -> Result<List<Section>, AllocError>
+    requires ready { M.can_make maker.now }
     requires workers { 1 ≤ workers }
     requires sound { IsSound table.now }
     requires narrow { width ≤ MAX_PAGE_WIDTH }
@@ -56,7 +61,7 @@ pub fn sections<R: Threads + Sync, M: Make, G: Gate>(
     ensures writable { IfOk result AreWritable }
 {
     let solve = |problem: &Problem, budget: u32| -> Result<Outcome, AllocError>
-        requires { budget ≤ MAX_BUDGET }
+        requires { M.can_make maker.now × (budget ≤ MAX_BUDGET) }
         ensures solved { IfOk result (IsSolverOutcome problem.now budget) }
         ensures besides { IfOk result (λ outcome. M.besides maker.entry.now problem.now budget outcome) }
     { maker.make(alloc)?.solve(problem, budget) };
