@@ -19,7 +19,8 @@ use Rattle.tl_read.proofs.Readings.{table_within}
 use Rattle.tl_page.proofs.PageLaws.{as_high}
 use Rattle.tl_page.proofs.Whole.{whole}
 use Rattle.tl_html.proofs.Fitting.{fitting_columns}
-use Rattle.tl_html.specs.Spellable.{IsSpellable}
+use Rattle.tl_table.specs.Spellable.{IsSpellable}
+use Rattle.tl_table.proofs.SoundBy.{sound_by}
 use Rattle.tl_html.proofs.ReadsBack.{reads_back}
 use Rattle.tl_program.specs.declared.answer.Answer.{Answer}
 use Rattle.tl_program.specs.declared.report.Report.{Report}
@@ -96,7 +97,8 @@ whole_page false style breaking table width height layout page sound spellable f
 )
 whole_page true style breaking table width height layout page sound spellable fits (same, is) = (
   is,
-  reads_back table layout page is breaking sound spellable (fitting_columns table style width height layout fits),
+  reads_back table layout page is (sound_by breaking table sound spellable)
+      (fitting_columns table style width height layout fits),
 )
 
 -- a CSV file is broken as one of HTML is

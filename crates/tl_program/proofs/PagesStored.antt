@@ -6,7 +6,7 @@ use Rattle.tl_base.specs.declared.breaking.Breaking.{Breaking}
 use Rattle.tl_cert.specs.declared.certificate.Certificate.{Certificate}
 use Rattle.tl_command.specs.Ask.{Asked}
 use Rattle.tl_table.specs.declared.cell.Table.{Table}
-use Rattle.tl_html.specs.Spellable.{IsSpellable}
+use Rattle.tl_table.specs.Spellable.{IsSpellable}
 use Rattle.tl_narrow.specs.declared.slim.Slim.{Slim}
 use Rattle.tl_read.specs.declared.reading.Reading.TheVariants as readings
 use Rattle.tl_read.specs.Reading.{IsReading}
