@@ -85,7 +85,7 @@ end
 local function code_lines(text)
     local inlines = pandoc.List({})
     for line in lines_of(text) do
-        local indent, rest = line:match("^( *)(.*)$")
+        local indent, rest = line:match("^( *)(.-) *$")
         local kept = BLANK:rep(#indent) .. keep_spaces(rest)
         inlines:extend({ pandoc.Str(kept == "" and BLANK or kept), pandoc.LineBreak() })
     end
@@ -284,8 +284,11 @@ local function find_program()
     for _, place in ipairs({ "/../../tablelayout", "/../../../bin/tablelayout" }) do
         local file = io.open(here .. place)
         -- Of a folder nothing can be read.
-        if file and file:read(0) then
+        local is_file = file and file:read(0)
+        if file then
             file:close()
+        end
+        if is_file then
             return here .. place
         end
     end
