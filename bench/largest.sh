@@ -2,7 +2,8 @@
 # Lays out the largest inputs that there may be, each at its own limit, and two files that are small for the table that
 # they ask for. Builds the program where it is missing. Prints for each the bytes of the file, the seconds of processor
 # time of the run from its start to its end, its memory at the most and that of 30 times the file and 4 MB, and its
-# message. Fails where a run ends without an answer, or takes 10 seconds or 200 MB, and where one of the two takes a second.
+# message. Fails where a run ends without an answer, or takes 10 seconds, 60 with the largest budget, or 200 MB, and
+# where one of the two takes a second.
 set -euo pipefail
 here=$(dirname "$(readlink -f "${BASH_SOURCE[0]}")")
 "$here/../tablelayout" lay 7 "$here/../examples/first.html" /dev/stdout >/dev/null
