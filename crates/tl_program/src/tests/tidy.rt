@@ -56,7 +56,21 @@ const FOUND: &[Tidied<'static>] = &[
         line: "tidy 7 t.html p.txt c.txt l.txt s.txt --solver best --workers 3",
         ..IN_SIX
     },
+    Tidied {
+        line: "tidy 7 t.html p.txt c.txt l.txt s.txt --solver learn",
+        ..IN_SIX
+    },
     TWO_LINES,
+    // One of three columns is broken, whichever it is: the choice breaks the first.
+    Tidied {
+        line: "tidy 12 t.html p.txt c.txt l.txt s.txt",
+        file: "<table><tr><td>a a<td>x<td>y<tr><td>p<td>b b<td>q<tr><td>r<td>s<td>c c</table>",
+        message: "tidy height 4 width 11\n",
+        page: Some("a  x    y  \na          \np  b b  q  \nr  s    c c\n"),
+        kept: Some("tablelayout 1 11 plain 5000\nlowest 4\n"),
+        less: Some("tablelayout 1 10 plain 5000\nlowest 5\n"),
+        ..IN_SIX
+    },
     // The frame takes a line above and below and between, and a column at each side.
     Tidied {
         line: "tidy 12 t.html p.txt c.txt l.txt s.txt --style frame",
@@ -126,6 +140,54 @@ const EARLY: &[Tidied<'static>] = &[
     },
 ];
 
+/// Two lines in 17 columns, 4 and 6 and 3 of them with two gaps; any line less of a cell takes 3 columns more.
+const THREE_CELLS: &str = "<table><tr><td>a a bb a<td>bb ccc dd<td>a e a a</table>";
+
+/// Five lines, whatever the nested table takes: its own are three on 7 columns and two on 10.
+const TALL: &str =
+    "<table><tr><td><table><tr><td>aaa bbb<td>cc dd ee</table><td>c<br>c<br>c<br>c<br>c</table>";
+
+/// The page is as low as any, and what the budget left open is told.
+const LEFT_OPEN: &[Tidied<'static>] = &[
+    // The page of 14 columns was tried and is too high, and that of 16 was not decided.
+    Tidied {
+        line: "tidy 19 t.html p.txt c.txt l.txt s.txt --budget 1",
+        file: THREE_CELLS,
+        status: 3,
+        message: "untidy width 19 least 15\n",
+        page: Some("a a   bb ccc  a e\nbb a  dd      a a\n"),
+        kept: Some("tablelayout 2 19 plain 1\nlowest 2\n"),
+        less: Some("tablelayout 2 14 plain 1\nlowest 3\n"),
+        spent: Some("tablelayout 1 16 plain 1\nbounded 3 2\n"),
+    },
+    // The choice takes three cuts.
+    Tidied {
+        line: "tidy 12 t.html p.txt c.txt l.txt s.txt --budget 2",
+        status: 3,
+        message: "untidy choice\n",
+        kept: Some("tablelayout 1 10 plain 2\nlowest 2\n"),
+        less: Some("tablelayout 1 9 plain 2\nlowest 3\n"),
+        ..TWO_LINES
+    },
+    Tidied {
+        line: "tidy 12 t.html p.txt c.txt l.txt s.txt --budget 3",
+        kept: Some("tablelayout 1 10 plain 3\nlowest 2\n"),
+        less: Some("tablelayout 1 9 plain 3\nlowest 3\n"),
+        ..TWO_LINES
+    },
+    // How low the nested table is on 10 columns is not known, and no choice is made on it.
+    Tidied {
+        line: "tidy 12 t.html p.txt c.txt l.txt s.txt --budget 0",
+        file: TALL,
+        status: 3,
+        message: "untidy choice\n",
+        page: Some("aaa  cc  c\nbbb  dd  c\n     ee  c\n         c\n         c\n"),
+        kept: Some("tablelayout 1 10 plain 0\nlowest 5\n"),
+        less: Some("tablelayout 1 9 plain 0\nnarrow 10\n"),
+        spent: None,
+    },
+];
+
 /// What is not named is not stored, and all else is as with every file.
 const UNNAMED: &[Tidied<'static>] = &[
     Tidied {
@@ -177,7 +239,7 @@ fn check(
 
 #[test]
 fn the_lowest_page_is_stored_on_the_narrowest(rt: HostRuntime) -> Result<(), Failure> {
-    for cases in [FOUND, EARLY, UNNAMED] {
+    for cases in [FOUND, EARLY, LEFT_OPEN, UNNAMED] {
         for case in cases {
             check(&rt, case)?;
         }
@@ -209,6 +271,28 @@ const CHECKED: &[(&str, &str, &[(&str, u8)])] = &[
         TWO,
         "tidy 12 t.html p.txt c.txt --budget 0",
         &[("check 12 t.html c.txt --budget 0", 3)],
+    ),
+    (
+        TWO,
+        "tidy 6 t.html p.txt c.txt",
+        &[("check 6 t.html c.txt", 4)],
+    ),
+    (
+        TWO,
+        "tidy 12 t.html p.txt c.txt l.txt --budget 2",
+        &[
+            ("check 10 t.html c.txt --budget 2", 0),
+            ("check 9 t.html l.txt --budget 2", 0),
+        ],
+    ),
+    (
+        THREE_CELLS,
+        "tidy 19 t.html p.txt c.txt l.txt s.txt --budget 1",
+        &[
+            ("check 19 t.html c.txt --budget 1", 0),
+            ("check 14 t.html l.txt --budget 1", 0),
+            ("check 16 t.html s.txt --budget 1", 3),
+        ],
     ),
 ];
 
@@ -252,6 +336,40 @@ fn whatever_found_it_the_page_is_the_same(rt: HostRuntime) -> Result<(), Failure
                 assert_eq!(rt; desk.said(), IN_SIX.message.as_bytes(), "{line}");
             }
             status => assert_eq!(rt; status, 3, "{line}"),
+        }
+    }
+    Ok(())
+}
+
+/// A table with 16 ways to give its columns classes of widths, of four lines.
+const SIXTEEN_WAYS: &str =
+    "<table><tr><td>a a<td>b b<td>c<br>c<tr><td>p<td>q<td>cccc cccc<td>dddd dddd</table>";
+
+/// Its tidy page: the first two columns broken, as the others take two lines in any case.
+const OF_SIXTEEN: &str = "a  b  c         \na  b  c         \np  q  cccc  dddd\n      cccc  dddd\n";
+
+#[test]
+fn each_budget_gives_an_answer_and_each_tidy_page_is_the_same(
+    rt: HostRuntime,
+) -> Result<(), Failure> {
+    let alloc = rt.alloc();
+    for solver in ["plain", "best", "learn"] {
+        for budget in 0..17u32 {
+            let line = format!(in alloc;
+                "tidy 25 t.html p.txt --budget {budget} --solver {solver}"
+            )?;
+            let mut desk = desk(alloc, SIXTEEN_WAYS.as_bytes(), &[])?;
+            let status = status_of(&rt, alloc, line.as_str(), &mut desk)?;
+            let said = desk.said();
+            if status == 0 {
+                assert_eq!(rt; said, "tidy height 4 width 16\n".as_bytes(), "{line}");
+                assert_eq!(rt; held(&desk, "p.txt"), Some(OF_SIXTEEN.as_bytes()), "{line}");
+            } else {
+                let open = said.starts_with(b"bounded height 4 lower 3 ")
+                    || said.starts_with(b"untidy width ")
+                    || said == "untidy choice\n".as_bytes();
+                assert!(rt; status == 3 && open && budget < 16, "{line}: {status}");
+            }
         }
     }
     Ok(())
