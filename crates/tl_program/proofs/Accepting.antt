@@ -37,15 +37,15 @@ use Rattle.tl_program.proofs.Storing.{after_join}
 -- ---- what a run that laid a table out has stored
 
 -- a certificate that is valid for the table and is stored, with the status of its claim
-record HasWritten (task : Task) (table : Table) (answer : Answer) (told : ℕ) : Type 0 where
-  certificate : Certificate
-  valid : IsValidIn task table certificate
-  file : answer.certificate ≡ certificate_file task.certified certificate
-  readable : IsReadBack task.certified certificate
-  claimed : told ≡ status_number (claim_status certificate.claim)
+pub record HasWritten (task : Task) (table : Table) (answer : Answer) (told : ℕ) : Type 0 where
+  pub certificate : Certificate
+  pub valid : IsValidIn task table certificate
+  pub file : answer.certificate ≡ certificate_file task.certified certificate
+  pub readable : IsReadBack task.certified certificate
+  pub claimed : told ≡ status_number (claim_status certificate.claim)
 
 -- what was laid out, with the status of its report
-by_laid : (task : Task) (table : Table) (answer : Answer) (told : ℕ) {report : Report} → IsLaidAs task table answer report →
+pub by_laid : (task : Task) (table : Table) (answer : Answer) (told : ℕ) {report : Report} → IsLaidAs task table answer report →
     told ≡ status_number (status_of report) → HasWritten task table answer told
 by_laid task table answer told (lowest_laid is) same = record {
   certificate = is.written.certificate;

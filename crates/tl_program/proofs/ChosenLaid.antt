@@ -84,13 +84,13 @@ module _ (table : Table) (style : Style) (height width budget : ℕ) (sound : Is
   pub of : IsDocumentOf table style width document
   of = low.valid.1
 
-  sound_document : IsSound document.table
+  pub sound_document : IsSound document.table
   sound_document = subst IsSound (sym of.same) sound
 
-  wide : IsNarrow c.claim → ⊥
+  pub wide : IsNarrow c.claim → ⊥
   wide = low_is_wide height c.claim low.low
 
-  shown : AreWhole document budget c.sections × EndsWith c.claim c.sections
+  pub shown : AreWhole document budget c.sections × EndsWith c.claim c.sections
   shown = shown_by_sections document budget c c.claim low.valid.2.shown wide
 
   some_number : own_number document ≤ document.last

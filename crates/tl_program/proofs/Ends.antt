@@ -22,7 +22,7 @@ use Rattle.tl_program.specs.declared.task.Task.{Task}
 use Rattle.tl_program.specs.Answers.{budget_in, budget_of, reach, IsLaidAs, lowest_laid, bounded_laid, narrow_laid}
 use Rattle.tl_program.specs.Asks.{IsAskOf, input_name}
 use Rattle.tl_program.specs.Change.{Change, Holds, StoresSome, FailsToStore, DoesNotFail, with_all}
-use Rattle.tl_program.specs.Complete.{IsComplete, IsRefusedSo, ShowsFile, SpellsTable}
+use Rattle.tl_program.specs.Complete.{IsComplete, IsRefusedBy, IsRefusedSo, ShowsFile, SpellsTable}
 use Rattle.tl_program.specs.Headline.{ComesOf, IsCarriedOut, Ends}
 use Rattle.tl_program.specs.Inputs.{IsOfBytes}
 use Rattle.tl_program.specs.Messages.{status_number, status_of, message_of}
@@ -199,7 +199,7 @@ module _ (width : ℕ) (asked : Asked) (Own : Table → Delivery → Type 0) (ch
       refusal_of (task_on width asked).source (reach (task_on width asked)) passed (λ t. Own t delivery) bytes refusal of_bytes
 
 -- a table that is laid out gives 0, 3 or 4
-laid_status : (task : Task) (table : Table) (answer : Answer) {report : Report} → IsLaidAs task table answer report →
+pub laid_status : (task : Task) (table : Table) (answer : Answer) {report : Report} → IsLaidAs task table answer report →
     (status : ℕ) →
     status ≡ status_number (status_of report) → (status ≡ 0) ⊎ ((status ≡ 3) ⊎ ((status ≡ 4) ⊎ (status ≡ 9)))
 laid_status task table answer (lowest_laid is) status same = inl same
@@ -216,11 +216,18 @@ complete words change status ends = λ asked bytes table is shown quiet spells.
       | inr nine ↦ inr (inr (inr nine))
     ]
 
-pub refused_so : (words : List (List ℕ)) (change : Change) (status : ℕ) → Ends words change status →
-    IsRefusedSo words change status
-refused_so words change status ends = λ asked bytes refusal is shown quiet read.
-    elim (went words change status Lay asked ends is quiet) [
+-- a file that is refused gives the status of its refusal, whatever the command makes of tables
+pub refused_by : (command : Command) (most : Asked → ℕ) (Own : Asked → Table → Delivery → Type 0) →
+    ((asked : Asked) (change : Change) (delivery : Delivery) → IsCarriedOut command asked change delivery →
+    ComesOfInput asked (reach (task_on (most asked) asked)) (Own asked) change delivery) →
+    (words : List (List ℕ)) (change : Change) (status : ℕ) → Ends words change status → IsRefusedBy command words change status
+refused_by command most Own carried words change status ends = λ asked bytes refusal is shown quiet read.
+    elim (went words change status command asked ends is quiet) [
       | inl so ↦ inl (so.2 ∙ ap (λ (d : Delivery). status_number (status_of d.report))
-          (refused_input asked.number asked (IsAnswered asked) change so.0 so.1 bytes shown quiet refusal read))
+          (refused_input (most asked) asked (Own asked) change so.0 (carried asked change so.0 so.1) bytes shown quiet refusal read))
       | inr nine ↦ inr nine
     ]
+
+pub refused_so : (words : List (List ℕ)) (change : Change) (status : ℕ) → Ends words change status →
+    IsRefusedSo words change status
+refused_so = refused_by Lay (λ asked. asked.number) IsAnswered (λ asked change delivery comes. comes)

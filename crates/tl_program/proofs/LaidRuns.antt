@@ -26,7 +26,7 @@ laid_apart told n (inl is) same nought three four = nought (sym same ∙ is)
 laid_apart told n (inr (inl is)) same nought three four = three (sym same ∙ is)
 laid_apart told n (inr (inr is)) same nought three four = four (sym same ∙ is)
 
-own_laid : (told : ℕ) → IsLaidStatus told → IsOwnStatus told
+pub own_laid : (told : ℕ) → IsLaidStatus told → IsOwnStatus told
 own_laid told out = record {
   bad_input = λ same. laid_apart told 5 out same (λ e. omega (arith, e)) (λ e. omega (arith, e)) (λ e. omega (arith, e));
   limit = λ same. laid_apart told 6 out same (λ e. omega (arith, e)) (λ e. omega (arith, e)) (λ e. omega (arith, e));

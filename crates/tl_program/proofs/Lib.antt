@@ -1,5 +1,5 @@
 pub mod Accepting
-pub mod AcceptingSlim
+pub mod AcceptingStored
 pub mod Alike
 pub mod Asking
 pub mod Checked
@@ -7,6 +7,7 @@ pub mod ChosenLaid
 pub mod Checking
 pub mod Ends
 mod Examples
+pub mod FlatTables
 pub mod InputRuns
 pub mod Inputs
 pub mod Judging
@@ -17,10 +18,15 @@ pub mod Loading
 pub mod Lowest
 pub mod NamedFiles
 pub mod Narrowest
+pub mod OnePage
+pub mod OpenCounts
 pub mod PagesStored
 pub mod SlimPages
 pub mod SlimRuns
 pub mod Storing
 pub mod Summing
 pub mod Tidiest
+pub mod TidyAlike
+pub mod TidyShown
 pub mod Tidying
+pub mod Untidy

@@ -162,7 +162,7 @@ bounded_of task table answer (lowest_laid is) same = absurd (omega (arith, same)
 bounded_of task table answer (bounded_laid is) same = (_, _, _, is)
 bounded_of task table answer (narrow_laid is) same = absurd (omega (arith, same))
 
-narrow_of : (task : Task) (table : Table) (answer : Answer) {report : Report} → IsLaidAs task table answer report →
+pub narrow_of : (task : Task) (table : Table) (answer : Answer) {report : Report} → IsLaidAs task table answer report →
     status_number (status_of report) ≡ 4 →
     (least : ℕ) × IsWrittenNarrow task table task.width (budget_in task table) least answer
 narrow_of task table answer (lowest_laid is) same = absurd (omega (arith, same))

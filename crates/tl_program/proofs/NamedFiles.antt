@@ -1,12 +1,17 @@
 -- What storing texts under names leaves: each text under its name, and any other file as it was.
 use Rattle.std.proofs.Common.{◌≡◌, ◌≢◌, inl, inr, ℕ, zero, suc, ◌<◌, List, [], ◌∷◌, length, get_or, Option, Some, None}
-use Rattle.std.proofs.Common.{◌⊎◌, ◌≤◌, ◌++◌, ◌∙◌, Contains, map, refl, sym, ap, subst, take, append-nil, arith}
+use Rattle.std.proofs.Common.{◌⊎◌, ◌≤◌, ◌++◌, ◌∙◌, Bool, true, false, Contains, map, refl, sym, ap, subst, take, append-nil, arith}
+use Rattle.std.specs.Prelude.{bytes_eq, option_to_list}
 use Rattle.std.proofs.lemmas.List.{map-append}
+use Rattle.std.proofs.lemmas.Map.{update_other}
+use Rattle.std.proofs.lemmas.Option.{get_or_from_slice_get, same_Some, slice_get_within}
+use Rattle.std.proofs.lemmas.Slice.Eq.{bytes_eq-Decides}
 use Rattle.std.specs.List.{AllByRecursion, AllPairs, slice_get}
 use Rattle.tl_base.proofs.Members.{AllPairs-tail, Contains-cases, Contains-none}
-use Rattle.tl_base.specs.Desk.{Files, stored}
+use Rattle.tl_base.specs.Desk.{Files, put, stored}
 use Rattle.tl_program.specs.declared.output.File.{File}
 use Rattle.tl_program.specs.Change.{Holds, Stored, as_stored, with_all}
+use Rattle.tl_program.specs.Deliveries.{stored_as}
 use Rattle.tl_program.specs.Slimmed.{files_of}
 use Rattle.tl_program.proofs.Lowest.{holds_last, holds_still}
 
@@ -72,6 +77,35 @@ text_there (one ∷ names) (Some first ∷ texts) files zero name text apart nam
 text_there (one ∷ names) (Some first ∷ texts) files (suc place) name text apart named is =
     text_there names texts (stored files one first) place name text (AllPairs-tail (λ a b. a ≢ b) one names apart) named is
 
+-- a name without a text is that of none of the files that are stored
+pub no_file_named : (names : List (List ℕ)) (texts : List (Option (List ℕ))) (place : ℕ) (name : List ℕ) →
+    AllPairs (λ one other. one ≢ other) names → slice_get names place ≡ Some name →
+    ((text : List ℕ) → slice_get texts place ≡ Some (Some text) → ⊥) → HasOtherNames name (files_of names texts)
+no_file_named [] texts place name apart named none = tt
+no_file_named (one ∷ names) [] place name apart named none = tt
+no_file_named (one ∷ names) (None ∷ texts) zero name apart named none =
+    subst (λ (n : List ℕ). HasOtherNames n (files_of names texts)) (same_Some one name named)
+    (named_otherwise one names texts (first_apart one names apart))
+no_file_named (one ∷ names) (None ∷ texts) (suc place) name apart named none =
+    no_file_named names texts place name (AllPairs-tail (λ a b. a ≢ b) one names apart) named none
+no_file_named (one ∷ names) (Some text ∷ texts) zero name apart named none = absurd (none text refl)
+no_file_named (one ∷ names) (Some text ∷ texts) (suc place) name apart named none = (
+  λ same. apart 0 (suc place) [] (omega arith) (omega (arith, slice_get_within names place name named))
+      (sym same ∙ sym (get_or_from_slice_get names place name [] named)),
+  no_file_named names texts place name (AllPairs-tail (λ a b. a ≢ b) one names apart) named none,
+)
+
+-- a file that none of them names is as it was
+pub left_as_it_was : (stores : List Stored) (files after : Files) (name : List ℕ) → HasOtherNames name stores →
+    with_all (Some files) stores ≡ Some after → after name ≡ files name
+left_as_it_was [] files after name others is = ap (λ (held : Files). held name) (sym (same_Some files after is))
+left_as_it_was (one ∷ stores) files after name others is =
+    left_as_it_was stores (put one.name one.bytes files) after name others.1 is
+    ∙ update_other bytes_eq files one.name (Some one.bytes) name (differ (bytes_eq one.name name) refl) where
+      differ : (test : Bool) → bytes_eq one.name name ≡ test → bytes_eq one.name name ≡ false
+      differ true same = absurd (others.0 (sym ((bytes_eq-Decides one.name name).0 same)))
+      differ false same = same
+
 -- and a file that is stored is one of a text under the name at its place
 pub record StandsAt (names : List (List ℕ)) (texts : List (Option (List ℕ))) (one : Stored) : Type 0 where
   pub place : ℕ
@@ -96,6 +130,30 @@ stands_at (name ∷ names) (Some text ∷ texts) one there =
           let rest = stands_at names texts one later in
           record { place = suc rest.place; named = rest.named; is = rest.is }
     ]
+
+-- ---- a page and a certificate
+
+-- where the texts end there are no more files
+none_left : (names : List (List ℕ)) → files_of names [] ≡ []
+none_left [] = refl
+none_left (name ∷ names) = refl
+
+-- the files of a layout are those of two texts, under the second name and the third
+pub laid_files : (names : List (List ℕ)) (page text : Option (List ℕ)) → 2 ≤ length names →
+    option_to_list (stored_as (Some (get_or names 1 [])) page) ++ option_to_list (stored_as (slice_get names 2) text)
+    ≡ files_of names (None ∷ page ∷ text ∷ [])
+laid_files [] page text two = absurd (omega (arith, two))
+laid_files (input ∷ []) page text two = absurd (omega (arith, two))
+laid_files (input ∷ name ∷ []) None text two = refl
+laid_files (input ∷ name ∷ []) (Some page) text two = refl
+laid_files (input ∷ name ∷ other ∷ names) None None two = sym (none_left names)
+laid_files (input ∷ name ∷ other ∷ names) None (Some text) two =
+    ap (λ (rest : List Stored). record { name = other; bytes = text } ∷ rest) (sym (none_left names))
+laid_files (input ∷ name ∷ other ∷ names) (Some page) None two =
+    ap (λ (rest : List Stored). record { name = name; bytes = page } ∷ rest) (sym (none_left names))
+laid_files (input ∷ name ∷ other ∷ names) (Some page) (Some text) two =
+    ap (λ (rest : List Stored). record { name = name; bytes = page } ∷ record { name = other; bytes = text } ∷ rest)
+    (sym (none_left names))
 
 -- ---- one file after the other
 

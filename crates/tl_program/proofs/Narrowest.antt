@@ -29,7 +29,7 @@ use Rattle.tl_program.specs.Narrowest.{RefusesSlim, StoresWiderPage}
 use Rattle.tl_program.specs.Slimmed.{IsPageOfKept, IsSlimIn, IsSlimmed, found_width}
 use Rattle.tl_program.specs.Tasks.{given_or, style_of, breaking_of, source_of, slim_task}
 use Rattle.tl_program.proofs.Asking.{names_asked}
-use Rattle.tl_program.proofs.Ends.{own_input, refused_input, same_bytes, went}
+use Rattle.tl_program.proofs.Ends.{own_input, refused_by, went}
 use Rattle.tl_program.proofs.Lowest.{same_breaks, whole_page}
 use Rattle.tl_program.proofs.NamedFiles.{text_there}
 use Rattle.tl_program.proofs.PagesStored.{can_be_spelt, page_stored, table_of_bytes}
@@ -221,9 +221,4 @@ finds words change status ends = λ asked bytes table is shown quiet spells.
 
 pub refused_slim : (words : List (List ℕ)) (change : Change) (status : ℕ) → Ends words change status →
     RefusesSlim words change status
-refused_slim words change status ends = λ asked bytes refusal is shown quiet read.
-    elim (went words change status Narrow asked ends is quiet) [
-      | inl so ↦ inl (so.2 ∙ ap (λ (d : Delivery). status_number (status_of d.report))
-          (refused_input MAX_PAGE_WIDTH asked (IsSlimmed asked) change so.0 so.1 bytes shown quiet refusal read))
-      | inr nine ↦ inr nine
-    ]
+refused_slim = refused_by Narrow (λ asked. MAX_PAGE_WIDTH) IsSlimmed (λ asked change delivery comes. comes)

@@ -50,7 +50,7 @@ module _ (asked : Asked) (bytes : List ℕ) (change : Change) (table : Table) (o
     (are : AreSlimTexts asked (task_on most asked) table height slim texts)
     (apart : AllPairs (λ one other. one ≢ other) asked.names) (two : 2 ≤ length asked.names)
     (stored : change.files_after ≡ with_all change.files (files_of asked.names texts)) where
-  page_there : (page : List ℕ) → are.page ≡ Some page → Holds change.files_after (page_name asked) page
+  pub page_there : (page : List ℕ) → are.page ≡ Some page → Holds change.files_after (page_name asked) page
   page_there page same = subst (λ files. Holds files (page_name asked) page) (sym stored)
       (text_there asked.names texts change.files 1 (page_name asked) page apart named
       (subst (λ (all : List (Option (List ℕ))). slice_get all 1 ≡ Some (Some page)) (sym are.all) (ap Some same))) where

@@ -26,11 +26,12 @@ use Rattle.tl_program.specs.Narrowest.{IsSlimStatus, IsSoundTableOf, Prints}
 use Rattle.tl_program.specs.Tasks.{style_of, task_of}
 use Rattle.tl_program.specs.Tidied.{EndsEarly, IsTidied, IsTidyEnd, IsTrimmed, IsTrimmedTo, chosen, laid_with}
 use Rattle.tl_program.specs.Tidied.{left_open, may_be_narrower}
-use Rattle.tl_program.specs.Tidiest.{IsNarrowestOf, StoresLowestOn, StoresTidy}
+use Rattle.tl_program.specs.Tidiest.{IsNarrowestOf, StoresLowestOn, StoresShown, StoresTidy}
 use Rattle.tl_program.proofs.Asking.{names_asked}
 use Rattle.tl_program.proofs.InputRuns.{WentRun, went_run}
 use Rattle.tl_program.proofs.PagesStored.{can_be_spelt, page_stored, table_of_bytes}
 use Rattle.tl_program.proofs.SlimRuns.{own_slim, slim_apart}
+use Rattle.tl_program.proofs.TidyShown.{slim_shown}
 
 -- ---- the run
 
@@ -68,6 +69,7 @@ early_apart reports.ReadFault early e = early
 pub record IsChosenTold (task : Task) (table : Table) (height : ℕ) (slim told : Slim) (report : Report) : Type 0 where
   pub same : slim.width ≡ slim.least
   pub wide : told.width ≡ slim.width
+  pub low : told.least ≡ slim.least
   pub certificate : Certificate
   pub kept : told.kept ≡ Some certificate
   pub reports_it : report ≡ reports.Tidy height slim.width
@@ -80,6 +82,7 @@ chosen_told task table height slim (left_open met left) e = absurd (omega (arith
 chosen_told task table height slim (chosen {kept} {problem} {placed} met within) e = record {
   same = met.same;
   wide = refl;
+  low = refl;
   certificate = laid_with kept placed.widths;
   kept = refl;
   reports_it = refl;
@@ -126,10 +129,29 @@ module _ (words : List (List ℕ)) (change : Change) (status : ℕ) (asked : Ask
     )
 
 -- the message is that of the report
-prints_as : (change : Change) (delivered found : Report) →
+pub prints_as : (change : Change) (delivered found : Report) →
     change.said_after ≡ longer change.said (message_of delivered) → delivered ≡ found →
     change.said_after ≡ longer change.said (message_of found)
 prints_as change delivered found printed same = printed ∙ ap (λ (r : Report). longer change.said (message_of r)) same
+
+-- what a run that trimmed the lowest page has stored
+module _ (words : List (List ℕ)) (change : Change) (status : ℕ) (asked : Asked) (bytes : List ℕ)
+    (is : IsAskOf Tidy words asked) (shown : ShowsFile change (input_name asked) bytes) (went : TidyRun asked change status)
+    (own : IsTrimmedTo asked went.run.table went.delivery) where
+  abbrev found : IsTrimmed asked (task_of asked) went.run.table went.delivery.report own.texts
+  found = own.trimmed
+
+  -- the page of a certificate that is kept, as low as any
+  pub page_of : (certificate : Certificate) → found.told.kept ≡ Some certificate →
+      StoresLowestOn asked bytes change went.run.table found.told.width found.height
+  page_of certificate kept =
+      stores_lowest_on words change status asked bytes is shown went own certificate kept found.tells.between.width_within
+
+  -- the certificates
+  pub shown_of : (certificate : Certificate) → found.told.kept ≡ Some certificate → (least : ℕ) → found.told.least ≡ least →
+      (stored : StoresShown asked change went.run.table found.height found.told.width least) × (stored.kept ≡ certificate)
+  shown_of = slim_shown asked change went.run.table found.height found.told own.texts found.tells found.are_texts is.is.names.apart
+      (went.stores ∙ ap (with_all change.files) own.stores)
 
 pub stores_tidy : MetIsSlimmest → (words : List (List ℕ)) (change : Change) (status : ℕ) → Ends words change status →
     StoresTidy words change status
@@ -140,21 +162,22 @@ stores_tidy law words change status ends = λ same asked bytes is shown.
           (shown : ShowsFile change (input_name asked) bytes) (went : TidyRun asked change status) →
           IsTidied asked went.run.table went.delivery → (table : Table) × (height : ℕ) × (width : ℕ)
           × StoresLowestOn asked bytes change table width height × IsNarrowestOf asked table height width
-          × Prints change (reports.Tidy height width)
+          × StoresShown asked change table height width width × Prints change (reports.Tidy height width)
       by_own same asked bytes is shown went (inr early) = absurd (early_apart early.answer.report early.early
           (sym (ap (λ d. status_number (status_of d.report)) early.so) ∙ sym went.told ∙ same))
       by_own same asked bytes is shown went (inl own) =
           let table = went.run.table in
           let trimmed = own.trimmed in
-          let told = chosen_told (task_of asked) table trimmed.height trimmed.slim trimmed.ends (sym went.told ∙ same) in
-          let within = trimmed.found.tells.between.width_within in (
+          let told = chosen_told (task_of asked) table trimmed.height trimmed.slim trimmed.ends (sym went.told ∙ same) in (
             table,
             trimmed.height,
             trimmed.slim.width,
             subst (λ (w : ℕ). StoresLowestOn asked bytes change table w trimmed.height) told.wide
-                (stores_lowest_on words change status asked bytes is shown went own told.certificate told.kept
-                (omega (arith, told.wide, within))),
+                (page_of words change status asked bytes is shown went own told.certificate told.kept),
             law table (style_of asked) trimmed.height asked.number (budget_in (task_of asked) table) trimmed.slim
                 went.run.sound trimmed.found.tells told.same,
+            subst (λ (w : ℕ). StoresShown asked change table trimmed.height w trimmed.slim.width) told.wide
+                (shown_of words change status asked bytes is shown went own told.certificate told.kept trimmed.slim.width
+                (told.low ∙ sym told.same)).0,
             prints_as change went.delivery.report (reports.Tidy trimmed.height trimmed.slim.width) went.prints told.reports_it,
           )

@@ -1,14 +1,21 @@
 -- What does not depend on how many workers there are, and what not on the search either: two runs on the same files, by arguments
 -- that differ in nothing else.
-use Rattle.std.specs.Prelude.{◌≡◌, ◌⊎◌, ℕ, List, None, Some}
+use Rattle.std.specs.Prelude.{◌≡◌, ◌⊎◌, ℕ, List, [], None, Some}
 use Rattle.tl_base.specs.Desk.{Files, longer}
-use Rattle.tl_command.specs.declared.command.Command.TheVariants.{Lay, Check}
+use Rattle.tl_command.specs.declared.command.Command.TheVariants.{Lay, Tidy, Check}
 use Rattle.tl_command.specs.Ask.{Asked}
+use Rattle.tl_table.specs.declared.cell.Table.{Table, out-Table}
+use Rattle.tl_table.specs.Tables.{inner_tables}
+use Rattle.tl_read.specs.declared.reading.Reading.TheVariants as readings
+use Rattle.tl_read.specs.declared.source.Source.{Source}
+use Rattle.tl_read.specs.Reading.{IsReading}
 use Rattle.tl_program.specs.declared.report.Report.TheVariants as reports
-use Rattle.tl_program.specs.Asks.{IsAskOf}
-use Rattle.tl_program.specs.Change.{Change, DoesNotFail}
+use Rattle.tl_program.specs.Asks.{IsAskOf, input_name, page_name}
+use Rattle.tl_program.specs.Change.{Change, DoesNotFail, Holds}
+use Rattle.tl_program.specs.Complete.{ShowsFile}
 use Rattle.tl_program.specs.Headline.{Ends}
 use Rattle.tl_program.specs.Messages.{message_of}
+use Rattle.tl_program.specs.Tasks.{source_of}
 
 -- what is asked for, but for the workers
 abbrev pub but_workers : Asked → Asked
@@ -39,6 +46,25 @@ but_search asked = record {
     style = asked.options.style;
     breaking = asked.options.breaking;
     budget = asked.options.budget;
+    search = None;
+    workers = None;
+    csv = asked.options.csv;
+    head = asked.options.head;
+    least = asked.options.least;
+    html = asked.options.html;
+  };
+}
+
+-- what is asked for, but for the workers, the search and the budget
+abbrev pub but_effort : Asked → Asked
+but_effort asked = record {
+  command = asked.command;
+  number = asked.number;
+  names = asked.names;
+  options = record {
+    style = asked.options.style;
+    breaking = asked.options.breaking;
+    budget = None;
     search = None;
     workers = None;
     csv = asked.options.csv;
@@ -80,3 +106,20 @@ abbrev pub LowestAlike : List (List ℕ) → Change → ℕ → Type 0
 LowestAlike words change status = (earlier : List (List ℕ)) (before : Change) (told : ℕ) (one other : Asked) →
     IsAskOf Lay earlier one → IsAskOf Lay words other → but_search one ≡ but_search other → Ends earlier before told →
     BeginAlike before change → told ≡ 0 → status ≡ 0 → (height : ℕ) × PrintsLowest before height × PrintsLowest change height
+
+-- no table is nested in a cell of this one
+abbrev pub HasNoNested : Table → Type 0
+HasNoNested table = inner_tables (out-Table table) ≡ []
+
+-- the bytes are those of a table in whose cells none is nested
+abbrev pub SpellsFlat : Source → List ℕ → Type 0
+SpellsFlat source bytes = (table : Table) × IsReading source bytes (readings.Table table) × HasNoNested table
+
+-- of a table in whose cells none is nested, two runs of `tidy` that end with 0 store the same page, and print the same,
+-- whatever search, budget and workers each had
+abbrev pub TidyAlike : List (List ℕ) → Change → ℕ → Type 0
+TidyAlike words change status = (earlier : List (List ℕ)) (before : Change) (told : ℕ) (one other : Asked) (bytes : List ℕ) →
+    IsAskOf Tidy earlier one → IsAskOf Tidy words other → but_effort one ≡ but_effort other → Ends earlier before told →
+    BeginAlike before change → told ≡ 0 → status ≡ 0 → ShowsFile change (input_name other) bytes →
+    SpellsFlat (source_of other) bytes → PrintAlike before change
+    × ((page : List ℕ) × Holds before.files_after (page_name one) page × Holds change.files_after (page_name other) page)

@@ -6,6 +6,7 @@ use Rattle.tl_cert.specs.declared.certificate.Certificate.{Certificate}
 use Rattle.tl_cert.specs.declared.certificate.Claim.{Claim}
 use Rattle.tl_cert.specs.declared.certificate.Claim.TheVariants as claims
 use Rattle.tl_cert.specs.Faults.{IsTextOf}
+use Rattle.tl_command.specs.declared.command.Command.{Command}
 use Rattle.tl_command.specs.declared.command.Command.TheVariants.{Lay, Check}
 use Rattle.tl_command.specs.Ask.{Asked}
 use Rattle.tl_table.specs.declared.cell.Table.{Table}
@@ -32,18 +33,26 @@ pub record SpellsTable (task : Task) (bytes : List ℕ) (table : Table) : Type 0
   pub read : IsReading task.source bytes (readings.Table table)
   pub within : reach task table ≤ MAX_REACH
 
--- a file that spells a table within all limits gives 0, 3 or 4
-abbrev pub IsComplete : List (List ℕ) → Change → ℕ → Type 0
-IsComplete words change status = (asked : Asked) (bytes : List ℕ) (table : Table) → IsAskOf Lay words asked →
+-- a command that lays a table out gives 0, 3 or 4 on a file that spells one within all limits
+abbrev pub IsCompleteBy : Command → List (List ℕ) → Change → ℕ → Type 0
+IsCompleteBy command words change status = (asked : Asked) (bytes : List ℕ) (table : Table) → IsAskOf command words asked →
     ShowsFile change (input_name asked) bytes → DoesNotFail change → SpellsTable (task_of asked) bytes table →
     (status ≡ 0) ⊎ ((status ≡ 3) ⊎ ((status ≡ 4) ⊎ (status ≡ 9)))
 
--- a file that is refused gives the status of its refusal
-abbrev pub IsRefusedSo : List (List ℕ) → Change → ℕ → Type 0
-IsRefusedSo words change status = (asked : Asked) (bytes : List ℕ) (refusal : Refusal) → IsAskOf Lay words asked →
+-- it is so of `lay`
+abbrev pub IsComplete : List (List ℕ) → Change → ℕ → Type 0
+IsComplete = IsCompleteBy Lay
+
+-- a command on a file that is refused gives the status of the refusal
+abbrev pub IsRefusedBy : Command → List (List ℕ) → Change → ℕ → Type 0
+IsRefusedBy command words change status = (asked : Asked) (bytes : List ℕ) (refusal : Refusal) → IsAskOf command words asked →
     ShowsFile change (input_name asked) bytes → DoesNotFail change →
     IsReading (task_of asked).source bytes (readings.Refused refusal) →
     (status ≡ status_number (refusal_status refusal)) ⊎ (status ≡ 9)
+
+-- it is so of `lay`
+abbrev pub IsRefusedSo : List (List ℕ) → Change → ℕ → Type 0
+IsRefusedSo = IsRefusedBy Lay
 
 -- the status of a claim that is shown
 abbrev pub claim_status : Claim → Status

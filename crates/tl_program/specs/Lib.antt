@@ -1,3 +1,4 @@
+pub mod Accepts
 pub mod Alike
 pub mod Answers
 pub mod Asks

@@ -1,6 +1,6 @@
 -- The theorem. Of a file that is a table, `lay` stores the lowest page that there is: no layout of the table that fits the
--- page width has fewer lines. HTML is the table that it spells, a CSV file that of its records (`IsTableOfFile`). The last three
--- definitions are the first clauses of `run`, for the statuses 0, 3 and 4.
+-- page width has fewer lines. HTML is the table that it spells, a CSV file that of its records (`IsTableOfFile`). `StoresLowest`,
+-- `StoresBounded` and `FitsNone` are the first clauses of `run`, for the statuses 0, 3 and 4.
 use Rattle.std.specs.Prelude.{◌≡◌, ℕ, ◌<◌, ◌≤◌, List}
 use Rattle.tl_command.specs.declared.command.Command.{Command}
 use Rattle.tl_command.specs.declared.command.Command.TheVariants.{Lay}
@@ -48,8 +48,12 @@ StoresBounded words change status = status ≡ 3 → OfFile Lay words change (λ
     (table : Table) × (height : ℕ) × (lower : ℕ) × StoresPage asked bytes change table asked.number height
     × HasNoneBelow asked table lower × (lower < height) × IsBelowCounts table (style_of asked) asked.number (budget_in (task_of asked) table))
 
--- status 4: no layout of the table fits the page width
-abbrev pub FitsNone : List (List ℕ) → Change → ℕ → Type 0
-FitsNone words change status = status ≡ 4 → OfFile Lay words change (λ asked bytes. (table : Table)
+-- status 4 of a command that lays a table out: no layout of the table fits the page width
+abbrev pub FitsNoneBy : Command → List (List ℕ) → Change → ℕ → Type 0
+FitsNoneBy command words change status = status ≡ 4 → OfFile command words change (λ asked bytes. (table : Table)
     × IsTableOfFile (source_of asked) bytes table × IsSound table × ((height : ℕ) (layout : Layout) →
     Fits table (style_of asked) asked.number height layout → ⊥))
+
+-- it is so of `lay`
+abbrev pub FitsNone : List (List ℕ) → Change → ℕ → Type 0
+FitsNone = FitsNoneBy Lay

@@ -1,32 +1,25 @@
 -- The theorem of `narrow`. Of a file that is a table, it stores a page of at most as many lines as are asked for, on the
 -- narrowest page that has a layout of so few, of all pages from 1 column to the widest. The first three definitions are clauses
 -- of `run`, for the statuses 0, 3 and 12.
-use Rattle.std.specs.Prelude.{◌≡◌, ◌⊎◌, ℕ, ◌≤◌, List, Contains, Option, Some, IfSome}
-use Rattle.std.specs.List.{slice_get}
+use Rattle.std.specs.Prelude.{◌≡◌, ◌⊎◌, ℕ, ◌≤◌, List, Option, IfSome}
 use Rattle.tl_base.specs.declared.limits.TheConstants.{MAX_PAGE_WIDTH}
-use Rattle.tl_base.specs.Desk.{Files, longer}
-use Rattle.tl_cert.specs.declared.certificate.Certificate.{Certificate}
-use Rattle.tl_cert.specs.Faults.{IsTextOf}
-use Rattle.tl_command.specs.declared.command.Command.TheVariants.{Narrow, Check}
+use Rattle.tl_base.specs.Desk.{longer}
+use Rattle.tl_command.specs.declared.command.Command.TheVariants.{Narrow}
 use Rattle.tl_command.specs.Ask.{Asked}
 use Rattle.tl_table.specs.declared.cell.Table.{Table}
 use Rattle.tl_table.specs.Sound.{IsSound}
 use Rattle.tl_narrow.specs.Slimmest.{IsBelowCounts, IsSlimmestWidth}
 use Rattle.tl_read.specs.Reading.{IsTableOfFile}
-use Rattle.tl_read.specs.declared.reading.Reading.TheVariants as readings
-use Rattle.tl_read.specs.declared.refusal.Refusal.{Refusal}
-use Rattle.tl_read.specs.Reading.{IsReading}
 use Rattle.tl_program.specs.declared.report.Report.{Report}
 use Rattle.tl_program.specs.declared.report.Report.TheVariants as reports
+use Rattle.tl_program.specs.Accepts.{AcceptsStored}
 use Rattle.tl_program.specs.Answers.{budget_in}
-use Rattle.tl_program.specs.Asks.{IsAskOf, input_name, judged_name}
-use Rattle.tl_program.specs.Change.{Change, DoesNotFail, Holds, with_all}
-use Rattle.tl_program.specs.Complete.{ShowsFile, SpellsTable, claim_status}
-use Rattle.tl_program.specs.Deliveries.{Delivery}
-use Rattle.tl_program.specs.Headline.{IsCarriedOut}
+use Rattle.tl_program.specs.Asks.{IsAskOf, input_name}
+use Rattle.tl_program.specs.Change.{Change, DoesNotFail}
+use Rattle.tl_program.specs.Complete.{IsRefusedBy, ShowsFile, SpellsTable}
 use Rattle.tl_program.specs.Lowest.{OfFile, StoresPage}
-use Rattle.tl_program.specs.Messages.{status_number, status_of, refusal_status, message_of}
-use Rattle.tl_program.specs.Tasks.{source_of, style_of, slim_task, task_of}
+use Rattle.tl_program.specs.Messages.{message_of}
+use Rattle.tl_program.specs.Tasks.{source_of, style_of, slim_task}
 
 -- the bytes of the file are the table
 pub record IsSoundTableOf (asked : Asked) (bytes : List ℕ) (table : Table) : Type 0 where
@@ -88,38 +81,8 @@ FindsWidth words change status = (asked : Asked) (bytes : List ℕ) (table : Tab
 
 -- a file that is refused gives the status of its refusal
 abbrev pub RefusesSlim : List (List ℕ) → Change → ℕ → Type 0
-RefusesSlim words change status = (asked : Asked) (bytes : List ℕ) (refusal : Refusal) → IsAskOf Narrow words asked →
-    ShowsFile change (input_name asked) bytes → DoesNotFail change →
-    IsReading (task_of asked).source bytes (readings.Refused refusal) →
-    (status ≡ status_number (refusal_status refusal)) ⊎ (status ≡ 9)
+RefusesSlim = IsRefusedBy Narrow
 
--- ---- what a check says of it
-
--- a check asks for what `narrow` has stored: the same file, one of the three certificates on the page that it names, and the
--- same budget
-pub record AsksForStored (files : Option Files) (slim checked : Asked) (certificate : Certificate) : Type 0 where
-  pub width : certificate.width ≡ checked.number
-  pub input : input_name slim ≡ input_name checked
-  pub place : ℕ
-  pub past_page : 2 ≤ place
-  pub named : slice_get slim.names place ≡ Some (judged_name checked)
-  pub style : (task_of slim).style ≡ (task_of checked).style
-  pub source : (task_of slim).source ≡ (task_of checked).source
-  pub budget : (bytes : List ℕ) (table : Table) → Holds files (input_name slim) bytes →
-      IsReading (task_of slim).source bytes (readings.Table table) →
-      budget_in (slim_task slim) table ≡ budget_in (task_of checked) table
-
--- a run of `narrow` delivered this: it found the narrowest page, or that there is none, or ended early, and stored its files
-pub record Delivers (slim : Asked) (before : Change) (delivery : Delivery) : Type 0 where
-  pub comes : IsCarriedOut Narrow slim before delivery
-  pub so : IsSlimStatus (status_number (status_of delivery.report))
-  pub stores : before.files_after ≡ with_all before.files delivery.stores
-
--- a check of a certificate that another run has just stored, on the page that the certificate names, accepts it
+-- a check accepts each certificate that is stored
 abbrev pub AcceptsSlim : List (List ℕ) → Change → ℕ → Type 0
-AcceptsSlim words change status = (earlier : List (List ℕ)) (before : Change) (slim checked : Asked) (delivery : Delivery)
-    (certificate : Certificate) (text : List ℕ) (files : Files) →
-    IsAskOf Narrow earlier slim → IsAskOf Check words checked → AsksForStored before.files slim checked certificate →
-    Delivers slim before delivery → Contains delivery.stores (record { name = judged_name checked; bytes = text }) →
-    IsTextOf text certificate → before.files_after ≡ Some files → change.files ≡ Some files → DoesNotFail change →
-    (status ≡ status_number (claim_status certificate.claim)) ⊎ (status ≡ 9)
+AcceptsSlim = AcceptsStored Narrow slim_task IsSlimStatus

@@ -13,6 +13,7 @@ use Rattle.tl_problem.specs.Problem.{ProblemModel}
 use Rattle.tl_problem.specs.Spans.{count_of}
 use Rattle.tl_form.specs.Nested.{IsProblemFor}
 use Rattle.tl_narrow.specs.declared.slim.Slim.{Slim}
+use Rattle.tl_narrow.specs.Slims.{IsSlim}
 use Rattle.tl_tidy.specs.Classes.{IsChosen}
 use Rattle.tl_tidy.specs.Needs.{IsNeedAbove, IsNeedWithin}
 use Rattle.tl_program.specs.declared.answer.Answer.{Answer}
@@ -113,6 +114,7 @@ pub record IsTrimmed (asked : Asked) (task : Task) (table : Table) (report : Rep
     pub some : slim.width ≢ 0
     pub told : Slim
     pub ends : IsTidyEnd task table height slim told report
+    pub tells : IsSlim table task.style height task.width (budget_in task table) told
     pub are_texts : AreSlimTexts asked task table height told texts
 
 -- what was found is reported, and its files are stored

@@ -5,7 +5,7 @@ ghost use Rattle.std.specs.Prelude.{◌≡◌, ◌≤◌, ℕ, List, length, map
 ghost use Rattle.tl_base.specs.declared.limits.TheConstants.{MAX_HEIGHT};
 ghost use Rattle.tl_command.specs.declared.command.Command.TheVariants as commands;
 ghost use Rattle.tl_command.specs.Ask.{asked_by, IsAsk};
-ghost use Rattle.tl_program.specs.Alike.{ChecksAlike, LowestAlike, RefusalsAlike};
+ghost use Rattle.tl_program.specs.Alike.{ChecksAlike, LowestAlike, RefusalsAlike, TidyAlike};
 ghost use Rattle.tl_program.specs.Change.{between};
 ghost use Rattle.tl_program.specs.Complete.{AcceptsLaid, IsAcceptedSo, IsComplete, IsRefusedSo, IsRejectedSo};
 ghost use Rattle.tl_program.specs.Narrowest.{AcceptsSlim, FindsWidth, HoldsNone, RefusesSlim, StoresBetween};
@@ -14,7 +14,7 @@ ghost use Rattle.tl_program.specs.Headline.{Ends};
 ghost use Rattle.tl_program.specs.Lowest.{FitsNone, StoresBounded, StoresLowest};
 ghost use Rattle.tl_program.specs.Messages.{status_number};
 ghost use Rattle.tl_program.specs.Tasks.{slim_task, task_of};
-ghost use Rattle.tl_program.specs.Tidiest.{StoresTidy};
+ghost use Rattle.tl_program.specs.Tidiest.{AcceptsTidy, FindsTidy, RefusesTidy, StoresTidy, StoresUntidy, TidyFitsNone};
 ghost use Rattle.tl_program.specs.inner.Steps.{IsTaskInRange};
 
 use crate::check::check_table;
@@ -31,6 +31,7 @@ use std::alloc::Global;
 use std::thread::Threads;
 use tl_base::{Desk, Gate, MAX_PAGE_WIDTH};
 use tl_command::{Ask, Command};
+use tl_form::{all_counts_rise, budget_closes, counts_exist, counts_rise};
 use tl_narrow::{kept_has_slimmest, met_is_slimmest, slimmest_is_no_less};
 
 /// Carries out the arguments of the command line over the desk, and returns the exit status. The gate
@@ -56,6 +57,10 @@ pub fn run<R: Threads + Sync, D: Desk, G: Gate>(
         (between D.Desk desk.old desk.new) result }
     ensures tidy { StoresTidy (map string_bytes words.now)
         (between D.Desk desk.old desk.new) result }
+    ensures untidy { StoresUntidy (map string_bytes words.now)
+        (between D.Desk desk.old desk.new) result }
+    ensures tidy_narrow { TidyFitsNone (map string_bytes words.now)
+        (between D.Desk desk.old desk.new) result }
     ensures ends { Ends (map string_bytes words.now)
         (between D.Desk desk.old desk.new) result }
     ensures complete { IsComplete (map string_bytes words.now)
@@ -74,9 +79,17 @@ pub fn run<R: Threads + Sync, D: Desk, G: Gate>(
         (between D.Desk desk.old desk.new) result }
     ensures accepts_slim { AcceptsSlim (map string_bytes words.now)
         (between D.Desk desk.old desk.new) result }
+    ensures finds_tidy { FindsTidy (map string_bytes words.now)
+        (between D.Desk desk.old desk.new) result }
+    ensures refuses_tidy { RefusesTidy (map string_bytes words.now)
+        (between D.Desk desk.old desk.new) result }
+    ensures accepts_tidy { AcceptsTidy (map string_bytes words.now)
+        (between D.Desk desk.old desk.new) result }
     ensures checks_alike { ChecksAlike (map string_bytes words.now)
         (between D.Desk desk.old desk.new) result }
     ensures refusals_alike { RefusalsAlike (map string_bytes words.now)
+        (between D.Desk desk.old desk.new) result }
+    ensures tidy_alike { TidyAlike (map string_bytes words.now)
         (between D.Desk desk.old desk.new) result }
     ensures lowest_alike { LowestAlike (map string_bytes words.now)
         (between D.Desk desk.old desk.new) result }
@@ -84,6 +97,10 @@ pub fn run<R: Threads + Sync, D: Desk, G: Gate>(
     met_is_slimmest();
     slimmest_is_no_less();
     kept_has_slimmest();
+    budget_closes();
+    counts_exist();
+    counts_rise();
+    all_counts_rise();
     carry_out(rt, alloc, words, desk, gate).number()
 }
 

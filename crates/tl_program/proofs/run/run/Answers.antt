@@ -1,19 +1,21 @@
 -- A run is complete by how it ends.
 use Rattle.std.proofs.Common.{◌≡◌, sym, subst, ℕ, List, map, string_bytes}
-use Rattle.tl_program.specs.Alike.{ChecksAlike, LowestAlike, RefusalsAlike}
+use Rattle.tl_program.specs.Alike.{ChecksAlike, LowestAlike, RefusalsAlike, TidyAlike}
 use Rattle.tl_program.specs.Change.{Change, between}
 use Rattle.tl_program.specs.Complete.{IsComplete, IsRefusedSo, IsAcceptedSo, IsRejectedSo, AcceptsLaid}
 use Rattle.tl_program.specs.Lowest.{FitsNone, StoresBounded, StoresLowest}
 use Rattle.tl_program.specs.Narrowest.{AcceptsSlim, FindsWidth, HoldsNone, RefusesSlim, StoresBetween, StoresNarrowest}
-use Rattle.tl_program.specs.Tidiest.{StoresTidy}
+use Rattle.tl_program.specs.Tidiest.{AcceptsTidy, FindsTidy, RefusesTidy, StoresTidy, StoresUntidy, TidyFitsNone}
 use Rattle.tl_program.proofs.Accepting.{accepts_laid}
-use Rattle.tl_program.proofs.AcceptingSlim.{accepts_slim}
+use Rattle.tl_program.proofs.AcceptingStored.{accepts_slim, accepts_tidy}
 use Rattle.tl_program.proofs.Alike.{checks_alike, lowest_alike, refusals_alike}
 use Rattle.tl_program.proofs.Checked.{accepted_so, rejected_so}
 use Rattle.tl_program.proofs.Ends.{complete, refused_so}
 use Rattle.tl_program.proofs.Lowest.{stores_lowest, stores_bounded, fits_none}
 use Rattle.tl_program.proofs.Narrowest.{finds, holds_none, refused_slim, stores_between, stores_narrowest}
+use Rattle.tl_program.proofs.TidyAlike.{tidy_alike}
 use Rattle.tl_program.proofs.Tidiest.{stores_tidy}
+use Rattle.tl_program.proofs.Untidy.{TidyLaws, finds_tidy, refuses_tidy, stores_untidy, tidy_fits_none}
 use Rattle.tl_program.proofs.run.run.Goals as goal
 
 -- what holds of a status holds of its number
@@ -73,6 +75,45 @@ returns-clause-tidy g c =
     numbered StoresTidy words change _ _ c.number.ensures
     (stores_tidy c.met_is_slimmest.ensures words change _ c.carry_out.ensures.ends)
 
+pub returns-clause-untidy : goal.returns-clause-untidy
+returns-clause-untidy g c =
+    let words = map string_bytes c.args.words.now in
+    let change = between g.D.Desk c.args.desk.now c.carry_out.new.desk in
+    let laws : TidyLaws = record {
+      met = c.met_is_slimmest.ensures;
+      no_less = c.slimmest_is_no_less.ensures;
+      has = c.kept_has_slimmest.ensures;
+      closes = c.budget_closes.ensures;
+      counts = c.counts_exist.ensures;
+      rise = c.counts_rise.ensures;
+      rise_all = c.all_counts_rise.ensures;
+    } in
+    numbered StoresUntidy words change _ _ c.number.ensures (stores_untidy laws words change _ c.carry_out.ensures.ends)
+
+pub returns-clause-tidy_narrow : goal.returns-clause-tidy_narrow
+returns-clause-tidy_narrow g c =
+    let words = map string_bytes c.args.words.now in
+    let change = between g.D.Desk c.args.desk.now c.carry_out.new.desk in
+    numbered TidyFitsNone words change _ _ c.number.ensures (tidy_fits_none words change _ c.carry_out.ensures.ends)
+
+pub returns-clause-finds_tidy : goal.returns-clause-finds_tidy
+returns-clause-finds_tidy g c =
+    let words = map string_bytes c.args.words.now in
+    let change = between g.D.Desk c.args.desk.now c.carry_out.new.desk in
+    numbered FindsTidy words change _ _ c.number.ensures (finds_tidy words change _ c.carry_out.ensures.ends)
+
+pub returns-clause-refuses_tidy : goal.returns-clause-refuses_tidy
+returns-clause-refuses_tidy g c =
+    let words = map string_bytes c.args.words.now in
+    let change = between g.D.Desk c.args.desk.now c.carry_out.new.desk in
+    numbered RefusesTidy words change _ _ c.number.ensures (refuses_tidy words change _ c.carry_out.ensures.ends)
+
+pub returns-clause-accepts_tidy : goal.returns-clause-accepts_tidy
+returns-clause-accepts_tidy g c =
+    let words = map string_bytes c.args.words.now in
+    let change = between g.D.Desk c.args.desk.now c.carry_out.new.desk in
+    numbered AcceptsTidy words change _ _ c.number.ensures (accepts_tidy words change _ c.carry_out.ensures.ends)
+
 pub returns-clause-accepts_slim : goal.returns-clause-accepts_slim
 returns-clause-accepts_slim g c =
     let words = map string_bytes c.args.words.now in
@@ -106,3 +147,10 @@ returns-clause-lowest_alike g c =
     let words = map string_bytes c.args.words.now in
     let change = between g.D.Desk c.args.desk.now c.carry_out.new.desk in
     numbered LowestAlike words change _ _ c.number.ensures (lowest_alike words change _ c.carry_out.ensures.ends)
+
+pub returns-clause-tidy_alike : goal.returns-clause-tidy_alike
+returns-clause-tidy_alike g c =
+    let words = map string_bytes c.args.words.now in
+    let change = between g.D.Desk c.args.desk.now c.carry_out.new.desk in
+    numbered TidyAlike words change _ _ c.number.ensures
+    (tidy_alike c.met_is_slimmest.ensures words change _ c.carry_out.ensures.ends)

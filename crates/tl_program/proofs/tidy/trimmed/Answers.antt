@@ -44,5 +44,7 @@ returns g c =
       some = c.in_ok-slim.ensures.handed;
       told = c.in_ok-end.end.slim;
       ends = c.in_ok-end.ensures.ends;
+      tells = subst (λ (b : ℕ). IsSlim table task.style c.args.height task.width b c.in_ok-end.end.slim) c.requires.usable.of_task
+          c.in_ok-end.ensures.slim;
       are_texts = c.in_ok-slim_texts.ensures;
     }
