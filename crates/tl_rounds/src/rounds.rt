@@ -27,14 +27,10 @@ pub struct Rounds<'f, F> {
     fan: &'f F,
 }
 
-impl<'f, F: Fn(&Problem, &[Zone], u32, u32) -> Result<Vec<Piece>, AllocError> + Sync> Rounds<
-    'f,
-    F,
-> {
+// No bound stands here, so that a maker can call it in a method of its trait.
+impl<'f, F> Rounds<'f, F> {
     /// A search in rounds of so many pieces at most, which may be called again and again.
     pub fn new(alloc: Global, workers: u32, fan: &'f F) -> Rounds<'f, F>
-        requires workers { 1 ≤ workers }
-        requires fan { IsFan F.Fn fan.now }
         ensures workers { result.workers ≡ workers }
         ensures fan { result.fan.now ≡ fan.now }
     {
