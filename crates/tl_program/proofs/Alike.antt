@@ -29,7 +29,7 @@ use Rattle.tl_program.specs.declared.rejection.Rejection.{Rejection}
 use Rattle.tl_program.specs.declared.report.Report.{Report}
 use Rattle.tl_program.specs.declared.report.Report.TheVariants as reports
 use Rattle.tl_program.specs.declared.task.Task.{Task}
-use Rattle.tl_program.specs.Alike.{but_workers, but_search, BeginAlike, PrintAlike, ChecksAlike, RefusalsAlike, LowestAlike}
+use Rattle.tl_program.specs.Alike.{but_workers, but_search, but_effort, BeginAlike, PrintAlike, ChecksAlike, RefusalsAlike, LowestAlike}
 use Rattle.tl_program.specs.Answers.{reach, budget_in, IsLaidAs, lowest_laid, bounded_laid, narrow_laid}
 use Rattle.tl_program.specs.Asks.{input_name, judged_name}
 use Rattle.tl_program.specs.Change.{Change, DoesNotFail, Holds}
@@ -152,7 +152,7 @@ lowest_alike words change status ends = λ earlier before told one other is also
     alike one other before change begin told status first second same low high
   where
     alike : (one other : Asked) (before change : Change) → BeginAlike before change → (told status : ℕ)
-        (first : LaidRun one before told) (second : LaidRun other change status) → but_search one ≡ but_search other →
+        (first : LaidRun one before told) (second : LaidRun other change status) → but_effort one ≡ but_effort other →
         (low : (height : ℕ) × (taken : ℕ) × (first.answer.report ≡ reports.Lowest height taken)
         × IsLeastHeight first.table (task_of one).style (task_of one).width height) →
         (high : (height : ℕ) × (taken : ℕ) × (second.answer.report ≡ reports.Lowest height taken)

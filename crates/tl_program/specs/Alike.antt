@@ -101,10 +101,10 @@ RefusalsAlike words change status = (earlier : List (List ℕ)) (before : Change
 abbrev pub PrintsLowest : Change → ℕ → Type 0
 PrintsLowest change height = (width : ℕ) × (change.said_after ≡ longer change.said (message_of (reports.Lowest height width)))
 
--- two layouts that are the lowest are as high
+-- two layouts that are the lowest are as high, whatever search, budget and workers each had
 abbrev pub LowestAlike : List (List ℕ) → Change → ℕ → Type 0
 LowestAlike words change status = (earlier : List (List ℕ)) (before : Change) (told : ℕ) (one other : Asked) →
-    IsAskOf Lay earlier one → IsAskOf Lay words other → but_search one ≡ but_search other → Ends earlier before told →
+    IsAskOf Lay earlier one → IsAskOf Lay words other → but_effort one ≡ but_effort other → Ends earlier before told →
     BeginAlike before change → told ≡ 0 → status ≡ 0 → (height : ℕ) × PrintsLowest before height × PrintsLowest change height
 
 -- no table is nested in a cell of this one
