@@ -15,7 +15,7 @@ _tablelayout_values() {
     case $1 in
     --style) echo plain compact frame ;;
     --break) echo words any ;;
-    --solver) echo plain best learn ;;
+    --solver) echo plain best learn rounds ;;
     esac
 }
 

@@ -52,6 +52,7 @@ search_once : (one other : Search) → search_word one ≡ search_word other →
 search_once searches.Plain searches.Plain e = refl
 search_once searches.Best searches.Best e = refl
 search_once searches.Learn searches.Learn e = refl
+search_once searches.Rounds searches.Rounds e = refl
 search_once one other e = absurd (omega (arith, ap (λ (word : List ℕ). get_or word 0 0) e))
 
 -- where a word stands for at most one value, an option of it is told from what follows

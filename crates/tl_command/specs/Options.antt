@@ -1,5 +1,6 @@
--- The options of a command: `--style plain|compact|frame`, `--break words|any`, `--budget N`, `--solver plain|best|learn`,
--- `--workers K`, `--csv`, `--head`, `--least LIST` and `--html`, in any order, each at most once, its value as the next argument.
+-- The options of a command: `--style plain|compact|frame`, `--break words|any`, `--budget N`,
+-- `--solver plain|best|learn|rounds`, `--workers K`, `--csv`, `--head`, `--least LIST` and `--html`, in any order, each at most
+-- once, its value as the next argument.
 use Rattle.std.specs.Prelude.{◌≡◌, ◌≢◌, ◌↔◌, ℕ, ◌≤◌, Bool, true, false, List, [], ◌∷◌, ◌++◌, length, drop, Some, IsTrue, Contains}
 use Rattle.std.specs.Prelude.{codes, decimal}
 use Rattle.std.specs.List.{All, AllPairs, flat_map}
@@ -28,6 +29,7 @@ abbrev pub search_word : Search → List ℕ
 search_word searches.Plain = codes "plain"
 search_word searches.Best = codes "best"
 search_word searches.Learn = codes "learn"
+search_word searches.Rounds = codes "rounds"
 
 -- numbers with a comma before each
 abbrev pub comma_numbers : List ℕ → List ℕ

@@ -26,6 +26,8 @@ pub enum Search {
     Best,
     /// Cuts as the plain search does, and keeps what each part of the search has shown.
     Learn,
+    /// Deals the zones that are left out to the workers, round by round.
+    Rounds,
 }
 
 /// An option that is given.
@@ -37,7 +39,7 @@ pub enum Choice {
     Breaking(Breaking),
     /// `--budget N`, with N at most [`tl_base::MAX_BUDGET`].
     Budget(u32),
-    /// `--solver plain|best`.
+    /// `--solver plain|best|learn|rounds`.
     Search(Search),
     /// `--workers K`, with K from 1 to [`MAX_WORKERS`].
     Workers(u32),

@@ -24,6 +24,7 @@ const ASKS: &[(&str, &str)] = &[
     ("lay 7 t p --solver plain", "lay 7 t p : solver=plain"),
     ("lay 7 t p --solver best", "lay 7 t p : solver=best"),
     ("lay 7 t p --solver learn", "lay 7 t p : solver=learn"),
+    ("lay 7 t p --solver rounds", "lay 7 t p : solver=rounds"),
     (
         "lay 7 t p c --style frame --break any --budget 5 --solver best --html",
         "lay 7 t p c : style=frame break=any budget=5 solver=best html",
@@ -254,6 +255,7 @@ const VALUES: &[&str] = &[
     "lay 7 t p --solver",
     "lay 7 t p --solver ",
     "lay 7 t p --solver learnt",
+    "lay 7 t p --solver round",
     "lay 7 t p --solver Best",
     "lay 7 t p --solver plain best",
     "lay 7 t p --html yes",
@@ -355,6 +357,7 @@ fn search_word(search: Search) -> &'static str {
         Search::Plain => "plain",
         Search::Best => "best",
         Search::Learn => "learn",
+        Search::Rounds => "rounds",
     }
 }
 

@@ -46,6 +46,7 @@ pub(crate) fn search_named(value: &str) -> Option<Choice>
         "plain" => Some(Choice::Search(Search::Plain)),
         "best" => Some(Choice::Search(Search::Best)),
         "learn" => Some(Choice::Search(Search::Learn)),
+        "rounds" => Some(Choice::Search(Search::Rounds)),
         _ => None,
     }
 }

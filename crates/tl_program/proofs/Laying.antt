@@ -49,7 +49,7 @@ few_columns table style page height layout sound fits = by_depth sound.depth fit
 -- ---- what is answered
 
 abbrev pub sections_of : Task → Table → List Section → Type 0
-sections_of task table sections = AreSectionsOf (IsOutcomeOf task.search (budget_in task table)) table task.style task.width
+sections_of task table sections = AreSectionsOf (IsOutcomeOf task.search task.workers (budget_in task table)) table task.style task.width
     (budget_in task table) sections
 
 module _ (task : Task) (table : Table) (sections : List Section) (are : sections_of task table sections)
@@ -70,7 +70,7 @@ module _ (task : Task) (table : Table) (sections : List Section) (are : sections
   cert = certificate_of task.width task.style (budget_in task table) sections
 
   is_valid : IsValid table task.style task.width (budget_in task table) cert
-  is_valid = valid (IsOutcomeOf task.search (budget_in task table)) table task.style task.width (budget_in task table)
+  is_valid = valid (IsOutcomeOf task.search task.workers (budget_in task table)) table task.style task.width (budget_in task table)
       sections are can wide
 
   abbrev laid : (claim : Claim) (height : ℕ) → claim_of sections ≡ claim → HasHeight claim height →
@@ -122,7 +122,7 @@ module _ (task : Task) (table : Table) (sections : List Section) (are : sections
 
         opened : (d : Section) → (get_or sections (length sections - 1) d).lower <
             (get_or sections (length sections - 1) d).height
-        opened = open_last (IsOutcomeOf task.search (budget_in task table)) table task.style task.width
+        opened = open_last (IsOutcomeOf task.search task.workers (budget_in task table)) table task.style task.width
             (budget_in task table) sections are can wide height lower is
 
         spent : Any (IsSpent (budget_in task table)) sections

@@ -65,13 +65,13 @@ drawn_low task table height width lines certificate layout (Err error) low named
 pub slim_by : (task : Task) (table : Table) (height budget : ℕ) (handed : Option Certificate) (search : Search)
     (result : Result Slim AllocError) → search ≡ task.search → budget ≡ budget_in task table →
     IfOk result (IsSlim table task.style height task.width budget) →
-    IfOk result (AreSearched (λ width certificate. AreSectionsOf (IsOutcomeOf search budget) table task.style width budget
+    IfOk result (AreSearched (λ width certificate. AreSectionsOf (IsOutcomeOf search task.workers budget) table task.style width budget
     certificate.sections) task.width handed) → IfOk result (IsSlimIn task table height handed)
 slim_by task table height budget handed search (Ok slim) named cuts tells by = record {
   tells = subst (λ (b : ℕ). IsSlim table task.style height task.width b slim) cuts tells;
-  by = subst (λ (s : Search). AreSearched (λ width certificate. AreSectionsOf (IsOutcomeOf s (budget_in task table)) table
+  by = subst (λ (s : Search). AreSearched (λ width certificate. AreSectionsOf (IsOutcomeOf s task.workers (budget_in task table)) table
       task.style width (budget_in task table) certificate.sections) task.width handed slim) named
-      (subst (λ (b : ℕ). AreSearched (λ width certificate. AreSectionsOf (IsOutcomeOf search b) table task.style width b
+      (subst (λ (b : ℕ). AreSearched (λ width certificate. AreSectionsOf (IsOutcomeOf search task.workers b) table task.style width b
       certificate.sections) task.width handed slim) cuts by);
 }
 slim_by task table height budget handed search (Err error) named cuts tells by = tt

@@ -81,7 +81,7 @@ sound_table (readings.Refused refusal) table is sound = absurd (none is) where
 -- ---- the sections
 
 abbrev pub demo_sections : Table → List Section → Type 0
-demo_sections table sections = AreSectionsOf (IsOutcomeOf Best DEMO_BUDGET) table Plain DEMO_WIDTH DEMO_BUDGET sections
+demo_sections table sections = AreSectionsOf (IsOutcomeOf Best 1 DEMO_BUDGET) table Plain DEMO_WIDTH DEMO_BUDGET sections
 
 module _ (table : Table) (sections : List Section) (are : demo_sections table sections) (can : AreWritable sections) where
   whole : AreWhole are.document DEMO_BUDGET sections
@@ -145,7 +145,7 @@ module _ (table : Table) (certificate : Certificate) (sections : List Section) (
   summary_made summary section count is counted cells counts height lower cuts = record {
     certificate = certificate;
     valid = subst (IsValid table Plain DEMO_WIDTH DEMO_BUDGET) (sym made)
-        (valid (IsOutcomeOf Best DEMO_BUDGET) table Plain DEMO_WIDTH DEMO_BUDGET sections are can wide);
+        (valid (IsOutcomeOf Best 1 DEMO_BUDGET) table Plain DEMO_WIDTH DEMO_BUDGET sections are can wide);
     searched = there;
     section = section;
     last = last_found certificate.sections section (omega (arith, writable_there.some)) ∙ ap Some (sym is);

@@ -113,20 +113,20 @@ module _ (task : Task) (table : Table) (budget : ℕ) (certificate : Certificate
     (found : IsFound task table budget certificate) (claim : certificate.claim ≡ claims.Lowest height) where
   pub first_valid : IsValid table task.style task.width budget certificate
   first_valid = subst (IsValid table task.style task.width budget) (sym found.made)
-      (valid (IsOutcomeOf task.search budget) table task.style task.width budget found.sections found.expected found.writable wide)
+      (valid (IsOutcomeOf task.search task.workers budget) table task.style task.width budget found.sections found.expected found.writable wide)
 
   pub first_low : IsLowCertificate table task.style height task.width budget certificate
   first_low = record {
     valid = first_valid;
     low = subst (ClaimsLow height) (sym claim) (omega arith);
     writable = subst IsWritable (sym found.made)
-        (writable (IsOutcomeOf task.search budget) table task.style task.width budget found.sections found.expected found.writable
+        (writable (IsOutcomeOf task.search task.workers budget) table task.style task.width budget found.sections found.expected found.writable
         wide usable.range.some usable.range.narrow usable.cuts);
   }
 
   pub first_small : height ≤ MAX_HEIGHT
   first_small =
-      let high = claimed_height (IsOutcomeOf task.search budget) table task.style task.width budget found.sections found.expected
+      let high = claimed_height (IsOutcomeOf task.search task.workers budget) table task.style task.width budget found.sections found.expected
       found.writable wide in
       let same : height ≡ high.0 = subst (λ (one : Claim). HasHeight one high.0)
       (sym (ap (λ (made : Certificate). made.claim) found.made) ∙ claim) high.2 in
@@ -139,9 +139,9 @@ module _ (task : Task) (table : Table) (budget : ℕ) (certificate : Certificate
 pub first_searched : (task : Task) (table : Table) (budget : ℕ) (certificate : Certificate) → IsUsableTable task table budget →
     IsFound task table budget certificate → IsSearchedOn task table task.width certificate
 first_searched task table budget certificate usable found =
-    subst (λ (sections : List Section). AreSectionsOf (IsOutcomeOf task.search (budget_in task table)) table task.style task.width
+    subst (λ (sections : List Section). AreSectionsOf (IsOutcomeOf task.search task.workers (budget_in task table)) table task.style task.width
     (budget_in task table) sections) (sym (ap (λ (made : Certificate). made.sections) found.made))
-    (subst (λ (b : ℕ). AreSectionsOf (IsOutcomeOf task.search b) table task.style task.width b found.sections) usable.of_task
+    (subst (λ (b : ℕ). AreSectionsOf (IsOutcomeOf task.search task.workers b) table task.style task.width b found.sections) usable.of_task
     found.expected)
 
 -- ---- what ends early

@@ -7,6 +7,7 @@ use Rattle.tl_base.specs.declared.breaking.Breaking.{Breaking}
 use Rattle.tl_base.specs.declared.style.Style.{Style}
 use Rattle.tl_astar.specs.Best.{IsBestOutcome}
 use Rattle.tl_branch.specs.Learn.{IsLearnOutcome}
+use Rattle.tl_rounds.specs.Outcomes.{IsRoundsOutcome}
 use Rattle.tl_solve.specs.Plain.{IsPlainOutcome}
 use Rattle.tl_solve.specs.declared.outcome.Outcome.{Outcome}
 use Rattle.tl_problem.specs.Problem.{ProblemModel}
@@ -85,11 +86,12 @@ IsReadBack false certificate = Unit {0}
 
 -- ---- a layout
 
--- what the search that is named promises besides of each outcome
-abbrev pub IsOutcomeOf : Search → ℕ → ProblemModel → Outcome → Type 0
-IsOutcomeOf kinds.Plain budget problem outcome = IsPlainOutcome problem outcome
-IsOutcomeOf kinds.Best budget problem outcome = IsBestOutcome problem budget outcome
-IsOutcomeOf kinds.Learn budget problem outcome = IsLearnOutcome problem outcome
+-- what the search that is named promises besides of each outcome, for so many workers and this budget
+abbrev pub IsOutcomeOf : Search → ℕ → ℕ → ProblemModel → Outcome → Type 0
+IsOutcomeOf kinds.Plain workers budget problem outcome = IsPlainOutcome problem outcome
+IsOutcomeOf kinds.Best workers budget problem outcome = IsBestOutcome problem budget outcome
+IsOutcomeOf kinds.Learn workers budget problem outcome = IsLearnOutcome problem outcome
+IsOutcomeOf kinds.Rounds workers budget problem outcome = IsRoundsOutcome workers problem budget outcome
 
 -- the file is a page of the table: that of this layout, which fits a page of `width` columns, has so many lines and takes so
 -- many columns
@@ -112,7 +114,7 @@ pub record IsWritten (task : Task) (table : Table) (width budget : ℕ) (claim :
     (answer : Answer) : Type 0 where
   pub certificate : Certificate
   pub certifies : Certifies table task.style width budget claim certificate
-  pub searched : AreSectionsOf (IsOutcomeOf task.search budget) table task.style width budget certificate.sections
+  pub searched : AreSectionsOf (IsOutcomeOf task.search task.workers budget) table task.style width budget certificate.sections
   pub layout : Layout
   pub named : IsNamed table task.style certificate layout
   pub page : List ℕ

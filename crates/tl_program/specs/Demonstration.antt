@@ -33,7 +33,7 @@ before_last sections = take (length sections - 1) sections
 pub record IsSummaryOf (table : Table) (summary : Summary) : Type 0 where
   pub certificate : Certificate
   pub valid : IsValid table Plain DEMO_WIDTH DEMO_BUDGET certificate
-  pub searched : AreSectionsOf (IsOutcomeOf Best DEMO_BUDGET) table Plain DEMO_WIDTH DEMO_BUDGET certificate.sections
+  pub searched : AreSectionsOf (IsOutcomeOf Best 1 DEMO_BUDGET) table Plain DEMO_WIDTH DEMO_BUDGET certificate.sections
   pub section : Section
   pub last : last_or None certificate.sections ≡ Some section
   pub problem : ProblemModel

@@ -24,7 +24,7 @@ use Rattle.tl_program.specs.Tasks.{slim_task}
 
 -- the sections of the certificate are those of a search on a page of so many columns
 abbrev pub IsSearchedOn : Task → Table → ℕ → Certificate → Type 0
-IsSearchedOn task table width certificate = AreSectionsOf (IsOutcomeOf task.search (budget_in task table)) table task.style width
+IsSearchedOn task table width certificate = AreSectionsOf (IsOutcomeOf task.search task.workers (budget_in task table)) table task.style width
     (budget_in task table) certificate.sections
 
 -- what the search for the narrowest page of at most `height` lines tells, among the pages of up to as many columns as the task

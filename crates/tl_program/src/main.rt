@@ -20,6 +20,7 @@ mod narrow;
 mod output;
 mod rejection;
 mod report;
+mod rounds;
 mod run;
 mod status;
 mod summary;

@@ -13,6 +13,7 @@ ghost use Rattle.tl_program.specs.Answers.{IsOutcomeOf};
 ghost use Rattle.tl_program.specs.Slimmed.{IsSlimIn};
 ghost use Rattle.tl_program.specs.inner.Steps.{IsUsableTable};
 
+use crate::rounds::{sections_in_rounds, slimmest_in_rounds};
 use crate::task::Task;
 use std::alloc::{AllocError, Global};
 use std::thread::Threads;
@@ -82,7 +83,7 @@ pub fn searched<R: Threads + Sync, G: Gate>(
     requires wide { (least : ℕ) → IsLeastWidth table.now task.now.style least → least ≤ task.now.width }
     requires cuts { budget ≤ MAX_BUDGET }
     requires workers { 1 ≤ task.now.workers }
-    ensures expected { IfOk result (AreSectionsOf (IsOutcomeOf task.now.search budget) table.now task.now.style task.now.width budget) }
+    ensures expected { IfOk result (AreSectionsOf (IsOutcomeOf task.now.search task.now.workers budget) table.now task.now.style task.now.width budget) }
     ensures writable { IfOk result AreWritable }
 {
     match task.search {
@@ -119,6 +120,7 @@ pub fn searched<R: Threads + Sync, G: Gate>(
             &MakeLearn,
             gate,
         ),
+        Search::Rounds => sections_in_rounds(rt, alloc, task, table, budget, gate),
     }
 }
 
@@ -179,5 +181,6 @@ pub fn slimmest_by<R: Threads + Sync, G: Gate>(
             &MakeLearn,
             gate,
         ),
+        Search::Rounds => { slimmest_in_rounds(rt, alloc, task, table, height, kept, budget, gate) }
     }
 }

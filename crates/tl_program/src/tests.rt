@@ -9,6 +9,7 @@ mod limits;
 mod narrow;
 mod pages;
 mod refusals;
+mod rounds;
 mod styles;
 mod tidy;
 mod usage;

@@ -11,6 +11,6 @@ use Rattle.tl_narrow.specs.Certified.{certificate_of}
 -- the certificate has the sections of the search that is named, and claims what the last of them does
 pub record IsFound (task : Task) (table : Table) (budget : ℕ) (certificate : Certificate) : Type 0 where
   pub sections : List Section
-  pub expected : AreSectionsOf (IsOutcomeOf task.search budget) table task.style task.width budget sections
+  pub expected : AreSectionsOf (IsOutcomeOf task.search task.workers budget) table task.style task.width budget sections
   pub writable : AreWritable sections
   pub made : certificate ≡ certificate_of task.width task.style budget sections

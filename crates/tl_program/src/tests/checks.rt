@@ -430,7 +430,7 @@ fn a_call_of_the_desk_that_fails_ends_a_check(rt: HostRuntime) -> Result<(), Fai
 }
 
 /// The status of the command line over the desk, and what it prints.
-fn told(
+pub(super) fn told(
     rt: &(impl Threads + Sync),
     alloc: Global,
     line: &str,
@@ -494,7 +494,7 @@ const DATA: &str =
     <td>red pepper</td>\n<td>12</td>\n</tr>\n</tbody>\n</table>\n";
 
 /// Widths, files and options that are laid out and checked.
-const LAID_OUT: &[(&str, &str, &str)] = &[
+pub(super) const LAID_OUT: &[(&str, &str, &str)] = &[
     ("10", "<table></table>", ""),
     ("8", ONE, ""),
     ("7", ONE, ""),

@@ -267,6 +267,7 @@ fn a_certificate_of_a_csv_file_is_accepted_with_the_same_options(
     ] {
         laid_and_checked(&rt, width, file, options, "")?;
         laid_and_checked(&rt, width, file, options, " --solver plain")?;
+        laid_and_checked(&rt, width, file, options, " --solver rounds --workers 2")?;
     }
     Ok(())
 }

@@ -354,6 +354,22 @@ const SPENT: &[Case<'static>] = &[
         message: "lowest height 2 width 10\n",
     },
     Case {
+        line: "lay 12 t.html p.txt --budget 0 --solver rounds --workers 2",
+        file: TWO,
+        status: 3,
+        page: Some("aaa  cc\nbbb  dd\n     ee\n"),
+        certificate: None,
+        message: "bounded height 3 lower 2 width 7\n",
+    },
+    Case {
+        line: "lay 12 t.html p.txt --budget 6 --solver rounds",
+        file: TWO,
+        status: 0,
+        page: Some("aaa  cc dd\nbbb  ee   \n"),
+        certificate: None,
+        message: "lowest height 2 width 10\n",
+    },
+    Case {
         line: "lay 25 t.html p.txt --solver plain --budget 3",
         file: FOUR,
         status: 3,
@@ -381,6 +397,11 @@ fn each_search_finds_the_least_height(rt: HostRuntime) -> Result<(), Fail> {
         "lay 25 t.html p.txt --solver plain --budget 7",
         "lay 25 t.html p.txt --solver learn",
         "lay 25 t.html p.txt --solver learn --budget 3",
+        "lay 25 t.html p.txt --solver rounds",
+        "lay 25 t.html p.txt --solver rounds --budget 16",
+        "lay 25 t.html p.txt --solver rounds --budget 16 --workers 2",
+        "lay 25 t.html p.txt --solver rounds --budget 16 --workers 3",
+        "lay 25 t.html p.txt --solver rounds --budget 16 --workers 16",
     ] {
         let mut desk = desk(rt.alloc(), FOUR.as_bytes(), &[])?;
         let status = status_of(&rt, rt.alloc(), line, &mut desk)?;

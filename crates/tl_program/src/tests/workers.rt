@@ -18,9 +18,16 @@ const PAGES: &[(&str, &str, &str)] = &[
 #[test]
 fn each_number_of_workers_finds_the_lowest_page(rt: HostRuntime) -> Result<(), Fail> {
     let file = Built::just(BESIDE);
-    for workers in ["1", "2", "16"] {
+    for options in [
+        "1",
+        "2",
+        "16",
+        "1 --solver rounds",
+        "2 --solver rounds",
+        "16 --solver rounds",
+    ] {
         for &(width, page, message) in PAGES {
-            let line = format!(in rt.alloc(); "lay {width} t.html p.txt --workers {workers}")?;
+            let line = format!(in rt.alloc(); "lay {width} t.html p.txt --workers {options}")?;
             check_page(&rt, line.as_str(), &file, &Built::just(page), message)?;
         }
     }
@@ -32,8 +39,8 @@ fn a_certificate_has_the_sections_that_are_due_with_any_workers(
     rt: HostRuntime,
 ) -> Result<(), Fail> {
     let alloc = rt.alloc();
-    for workers in ["1", "2", "16"] {
-        let line = format!(in alloc; "lay 12 t.html p.txt c.txt --workers {workers}")?;
+    for options in ["1", "2", "16", "2 --solver rounds"] {
+        let line = format!(in alloc; "lay 12 t.html p.txt c.txt --workers {options}")?;
         let mut desk = desk(alloc, BESIDE.as_bytes(), &[])?;
         let status = status_of(&rt, alloc, line.as_str(), &mut desk)?;
         let text = held(&desk, "c.txt").unwrap_or(b"");

@@ -22,7 +22,7 @@ pub layout-requires-clause-written : goal.layout-requires-clause-written
 layout-requires-clause-written c =
     let task = c.args.task.now in
     subst IsWritable (sym c.requires.found.made)
-    (writable (IsOutcomeOf task.search c.args.budget) c.args.table.now task.style task.width c.args.budget
+    (writable (IsOutcomeOf task.search task.workers c.args.budget) c.args.table.now task.style task.width c.args.budget
     c.requires.found.sections
     c.requires.found.expected c.requires.found.writable c.requires.wide
     c.requires.usable.range.some c.requires.usable.range.narrow c.requires.usable.cuts)
@@ -32,7 +32,7 @@ layout-requires-clause-valid c =
     let task = c.args.task.now in
     subst (λ (made : Certificate). IsValid c.args.table.now task.style made.width made.budget made)
     (sym c.requires.found.made)
-    (valid (IsOutcomeOf task.search c.args.budget) c.args.table.now task.style task.width c.args.budget c.requires.found.sections
+    (valid (IsOutcomeOf task.search task.workers c.args.budget) c.args.table.now task.style task.width c.args.budget c.requires.found.sections
     c.requires.found.expected c.requires.found.writable c.requires.wide)
 
 pub total_width-width-requires : goal.total_width-width-requires
@@ -45,7 +45,7 @@ total_width-width-requires c =
     λ height high. subst (λ (width : ℕ). Fits c.args.table.now task.style width height c.in_ok-layout.layout)
     (ap (λ (made : Certificate). made.width) c.requires.found.made)
     (c.in_ok-layout.ensures.fits height (subst (λ (claim : Claim). HasHeight claim height) (sym is) high)) in
-    let high = claimed_height (IsOutcomeOf task.search c.args.budget)
+    let high = claimed_height (IsOutcomeOf task.search task.workers c.args.budget)
     c.args.table.now task.style task.width c.args.budget c.requires.found.sections
     c.requires.found.expected c.requires.found.writable c.requires.wide in
     subst (λ (widths : List ℕ). length widths ≤ MAX_COLUMNS) (sym c.as_slice.ensures)
@@ -62,7 +62,7 @@ page_file-requires-clause-fits c =
     λ height high. subst (λ (width : ℕ). Fits c.args.table.now task.style width height c.in_ok-layout.layout)
     (ap (λ (made : Certificate). made.width) c.requires.found.made)
     (c.in_ok-layout.ensures.fits height (subst (λ (claim : Claim). HasHeight claim height) (sym is) high)) in
-    let high = claimed_height (IsOutcomeOf task.search c.args.budget)
+    let high = claimed_height (IsOutcomeOf task.search task.workers c.args.budget)
     c.args.table.now task.style task.width c.args.budget c.requires.found.sections
     c.requires.found.expected c.requires.found.writable c.requires.wide in
     (task.width, high.0, c.requires.usable.range.narrow, high.1, fits high.0 high.2)
@@ -71,7 +71,7 @@ pub certificate_file-requires : goal.certificate_file-requires
 certificate_file-requires c =
     let task = c.args.task.now in
     subst IsWritable (sym c.requires.found.made)
-    (writable (IsOutcomeOf task.search c.args.budget) c.args.table.now task.style task.width c.args.budget
+    (writable (IsOutcomeOf task.search task.workers c.args.budget) c.args.table.now task.style task.width c.args.budget
     c.requires.found.sections
     c.requires.found.expected c.requires.found.writable c.requires.wide
     c.requires.usable.range.some c.requires.usable.range.narrow c.requires.usable.cuts)
@@ -99,7 +99,7 @@ returns-clause-laid c =
     }))
     (sym (c.report_of.ensures ∙ ap (λ (claim : Claim). report_of task.width claim c.total_width-width.result) is))
     (answered task table sections
-    (subst (λ (b : ℕ). AreSectionsOf (IsOutcomeOf task.search b) table task.style task.width b sections)
+    (subst (λ (b : ℕ). AreSectionsOf (IsOutcomeOf task.search task.workers b) table task.style task.width b sections)
     c.requires.usable.of_task c.requires.found.expected)
     c.requires.found.writable c.requires.wide c.requires.usable.sound c.requires.usable.range.narrow
     (subst (λ (b : ℕ). b ≤ _) c.requires.usable.of_task c.requires.usable.cuts)

@@ -8,18 +8,24 @@ use Rattle.tl_program.proofs.makers.searched.Goals as goal
 
 pub returns-in-Plain-clause-expected : goal.returns-in-Plain-clause-expected
 returns-in-Plain-clause-expected g c =
-    subst (λ (kind : Search). IfOk c.sections.result (AreSectionsOf (IsOutcomeOf kind c.args.budget)
+    subst (λ (kind : Search). IfOk c.sections.result (AreSectionsOf (IsOutcomeOf kind c.args.task.now.workers c.args.budget)
     c.args.table.now c.args.task.now.style
     c.args.task.now.width c.args.budget)) (sym c.in-Plain.is) c.sections.ensures.expected
 
 pub returns-in-Best-clause-expected : goal.returns-in-Best-clause-expected
 returns-in-Best-clause-expected g c =
     subst (λ (kind : Search). IfOk c.sections-in-Best.result
-    (AreSectionsOf (IsOutcomeOf kind c.args.budget) c.args.table.now c.args.task.now.style
+    (AreSectionsOf (IsOutcomeOf kind c.args.task.now.workers c.args.budget) c.args.table.now c.args.task.now.style
     c.args.task.now.width c.args.budget)) (sym c.in-Best.is) c.sections-in-Best.ensures.expected
 
 pub returns-in-Learn-clause-expected : goal.returns-in-Learn-clause-expected
 returns-in-Learn-clause-expected g c =
     subst (λ (kind : Search). IfOk c.sections-in-Learn.result
-    (AreSectionsOf (IsOutcomeOf kind c.args.budget) c.args.table.now c.args.task.now.style
+    (AreSectionsOf (IsOutcomeOf kind c.args.task.now.workers c.args.budget) c.args.table.now c.args.task.now.style
     c.args.task.now.width c.args.budget)) (sym c.in-Learn.is) c.sections-in-Learn.ensures.expected
+
+pub returns-in-Rounds-clause-expected : goal.returns-in-Rounds-clause-expected
+returns-in-Rounds-clause-expected g c =
+    subst (λ (kind : Search). IfOk c.sections_in_rounds.result
+    (AreSectionsOf (IsOutcomeOf kind c.args.task.now.workers c.args.budget) c.args.table.now c.args.task.now.style
+    c.args.task.now.width c.args.budget)) (sym c.in-Rounds.is) c.sections_in_rounds.ensures.expected

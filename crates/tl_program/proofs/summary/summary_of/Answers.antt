@@ -25,10 +25,10 @@ searched-requires-clause-wide g c = λ lifetimes outlives.
 
 -- the search is that of the demonstration
 sections_are : (table : _) (task : Task) (sections : List Section) → task ≡ demo_task →
-    AreSectionsOf (IsOutcomeOf task.search DEMO_BUDGET) table task.style task.width DEMO_BUDGET sections →
+    AreSectionsOf (IsOutcomeOf task.search task.workers DEMO_BUDGET) table task.style task.width DEMO_BUDGET sections →
     demo_sections table sections
 sections_are table task sections same =
-    subst (λ (t : Task). AreSectionsOf (IsOutcomeOf t.search DEMO_BUDGET) table t.style t.width DEMO_BUDGET sections) same
+    subst (λ (t : Task). AreSectionsOf (IsOutcomeOf t.search t.workers DEMO_BUDGET) table t.style t.width DEMO_BUDGET sections) same
 
 made_of : (task : Task) (certificate : Certificate) (sections : List Section) → task ≡ demo_task →
     certificate ≡ certificate_of task.width task.style DEMO_BUDGET sections →
@@ -42,7 +42,7 @@ verify-requires-clause-written g c = λ lifetimes outlives.
     let made = made_of c.task-task.result c.certificate_of-certificate.result sections c.task-task.ensures
     c.certificate_of-certificate.ensures in
     subst IsWritable (sym made)
-    (writable (IsOutcomeOf Best DEMO_BUDGET) c.args.table.now Plain DEMO_WIDTH DEMO_BUDGET sections are
+    (writable (IsOutcomeOf Best 1 DEMO_BUDGET) c.args.table.now Plain DEMO_WIDTH DEMO_BUDGET sections are
     c.in_ok-sections.ensures.writable c.requires.wide
     (omega arith) (omega arith) (omega arith))
 
