@@ -1,4 +1,4 @@
-//! Any number of workers: the same pages, certificates and messages.
+//! Any number of workers, and each search: the same pages, certificates and messages.
 
 use crate::tests::checks::laid_and_checked;
 use crate::tests::limits::{Built, check_page};
@@ -16,12 +16,14 @@ const PAGES: &[(&str, &str, &str)] = &[
 ];
 
 #[test]
-fn each_number_of_workers_finds_the_lowest_page(rt: HostRuntime) -> Result<(), Fail> {
+fn each_search_finds_the_lowest_page_with_any_workers(rt: HostRuntime) -> Result<(), Fail> {
     let file = Built::just(BESIDE);
     for options in [
         "1",
         "2",
         "16",
+        "1 --solver plain",
+        "1 --solver learn",
         "1 --solver rounds",
         "2 --solver rounds",
         "16 --solver rounds",
