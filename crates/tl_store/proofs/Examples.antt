@@ -1,11 +1,12 @@
 -- The definitions on drawn cases.
-use Rattle.std.proofs.Common.{◌≡◌, ℕ, List, [], ◌∷◌, inl, inr, get_or, refl, ap, subst, arith}
+use Rattle.std.proofs.Common.{◌≡◌, ℕ, List, [], ◌∷◌, Option, None, Some, inl, inr, length, get_or, refl, sym, ap, subst, arith}
 use Rattle.std.specs.List.{Contains}
 use Rattle.tl_base.proofs.Members.{Contains-first, Contains-later, Contains-cases, Contains-none}
 use Rattle.tl_cert.specs.declared.log.Bound.{Bound}
 use Rattle.tl_cert.specs.declared.log.Nogood.TheVariants.{Zone, Bounds}
 use Rattle.tl_cert.specs.Nogoods.{at_most, at_least}
-use Rattle.tl_store.specs.Stores.{BoundComesFirst, HaveSame, IsAddedNogood}
+use Rattle.tl_store.specs.declared.groups.Group.{Group}
+use Rattle.tl_store.specs.Stores.{BoundComesFirst, HaveSame, IsHeadOf, IsListed, AreListed, IsAddedNogood}
 use Rattle.tl_store.specs.Shrunk.{IsShort}
 
 abbrev narrow : Bound
@@ -91,6 +92,36 @@ anew = record {
 -- the next number for a nogood that is there would be wrong
 not_next : IsAddedNogood ((narrow ∷ []) ∷ []) ((narrow ∷ []) ∷ (narrow ∷ []) ∷ []) (narrow ∷ []) 1 → ⊥
 not_next is = let less = is.first 0 (omega arith) (itself (narrow ∷ [])) in omega (arith, less)
+
+-- a group has nogoods with its bound alone, and without a bound that of no bounds
+with_head : IsHeadOf (Some wide) (narrow ∷ wide ∷ [])
+with_head = Contains-later narrow (wide ∷ []) wide (Contains-first wide [])
+
+without_head : IsHeadOf (Some wide) (narrow ∷ []) → ⊥
+without_head has = elim (Contains-cases narrow [] wide has) [
+  | inl one ↦ let widths : 8 ≡ 9 = ap (λ (b : Bound). b.width) one in omega (arith, widths)
+  | inr none ↦ Contains-none wide none
+]
+
+not_empty : IsHeadOf None (narrow ∷ []) → ⊥
+not_empty none = let lengths : 1 ≡ 0 = ap length none in omega (arith, lengths)
+
+-- one group is enough for one nogood, and none is not
+one_group : (group : Group) → group.head ≡ Some narrow → Contains group.numbers.items 0 →
+    AreListed (group ∷ []) ((narrow ∷ []) ∷ [])
+one_group group head has k within =
+    let here : k ≡ 0 = omega (arith, within) in
+    subst (λ (j : ℕ). IsListed (group ∷ []) (get_or ((narrow ∷ []) ∷ []) j []) j) (sym here) (record {
+      group = group;
+      there = Contains-first group [];
+      listed = record {
+        head = subst (λ (h : Option Bound). IsHeadOf h (narrow ∷ [])) (sym head) (Contains-first narrow []);
+        has = has;
+      };
+    })
+
+no_group : AreListed [] ((narrow ∷ []) ∷ []) → ⊥
+no_group listed = let is = listed 0 (omega arith) in Contains-none is.group is.there
 
 -- a line is short with zone 0 or with a bound, and not with another zone or with none written out
 short_whole : IsShort (Zone 0)
