@@ -11,14 +11,14 @@ use tl_check::Checker;
 use tl_problem::{Cell, Problem};
 use tl_solve::{Outcome, Plain, Solver};
 
-fn share<T: Send + Sync + Drop>(_value: T) {}
+pub(crate) fn share<T: Send + Sync + Drop>(_value: T) {}
 
 #[test]
 fn a_search_that_learns_may_go_to_other_threads() {
     share::<Option<Learn>>(None);
 }
 
-fn config(width: u32, height: u32) -> Config {
+pub(crate) fn config(width: u32, height: u32) -> Config {
     Config { width, height }
 }
 
@@ -31,7 +31,7 @@ fn steps(alloc: Global, configs: &[Config]) -> Result<Steps, Fail> {
 }
 
 /// A cell of one row and one column or more.
-fn cell(
+pub(crate) fn cell(
     alloc: Global,
     columns: (u32, u32),
     row: u32,
@@ -51,7 +51,7 @@ fn cell(
 }
 
 /// Puts a cell of one row after the others, which has the same steps by `low` and by `high`.
-fn add(
+pub(crate) fn add(
     alloc: Global,
     cells: &mut List<Cell>,
     columns: (u32, u32),
@@ -65,7 +65,7 @@ fn add(
 }
 
 /// The problem in style plain, where it is sound.
-fn problem(
+pub(crate) fn problem(
     alloc: Global,
     cols: u32,
     rows: u32,
@@ -80,7 +80,7 @@ fn problem(
 
 /// Four columns on a page of 25: `a a`, `b b` and a `c` of two lines in the upper row; `p`, `q`,
 /// `cccc cccc` and `dddd dddd` in the lower.
-fn two_rows(alloc: Global) -> Result<Problem, Fail> {
+pub(crate) fn two_rows(alloc: Global) -> Result<Problem, Fail> {
     let short = [config(1, 2), config(3, 1)];
     let long = [config(4, 2), config(9, 1)];
     let high = [config(1, 2)];
@@ -215,7 +215,7 @@ fn two_cells_need_three_lines_on_nine_columns(rt: HostRuntime) -> Result<(), Fai
 }
 
 /// `aaa bbb` beside `cc dd ee` on a page of this width.
-fn two_cells(alloc: Global, width: u32) -> Result<Problem, Fail> {
+pub(crate) fn two_cells(alloc: Global, width: u32) -> Result<Problem, Fail> {
     let left = [config(3, 2), config(7, 1)];
     let right = [config(2, 3), config(5, 2), config(8, 1)];
     let mut cells = List::new(alloc);
