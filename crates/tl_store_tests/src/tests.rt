@@ -212,6 +212,46 @@ fn the_first_nogood_that_is_implied_closes_a_zone(rt: HostRuntime) -> Result<(),
     Ok(())
 }
 
+// The fourth column may have 9 columns, and never 24: of the nogoods that end with a bound of 24 the first one that was
+// added is named, whichever bound it ends with.
+#[test]
+fn the_first_nogood_is_named_whatever_its_last_bound(rt: HostRuntime) -> Result<(), Fail> {
+    let alloc = rt.alloc();
+    let problem = two_rows(alloc)?;
+    let trace = no_cuts(alloc, &problem)?;
+    let mut store = Store::new(alloc, &problem, 0)?;
+    let whole = whole_of(&problem)?;
+    let open = [at_most(2, 24), at_most(3, 8)];
+    add_line(alloc, &mut store, &problem, &trace, &open)?;
+    let half = [at_most(2, 8), at_most(3, 24)];
+    add_line(alloc, &mut store, &problem, &trace, &half)?;
+    let none = store.closes(&problem, &whole);
+    let two = [at_most(1, 24), at_most(2, 24)];
+    add_line(alloc, &mut store, &problem, &trace, &two)?;
+    add_line(alloc, &mut store, &problem, &trace, &[at_most(3, 24)])?;
+    add_line(alloc, &mut store, &problem, &trace, &[at_most(0, 24)])?;
+    assert_eq!(rt; (none, store.closes(&problem, &whole)), (None, Some(2)));
+    Ok(())
+}
+
+#[test]
+fn the_nogood_without_bounds_closes_each_zone(rt: HostRuntime) -> Result<(), Fail> {
+    let alloc = rt.alloc();
+    let problem = two_rows(alloc)?;
+    let trace = no_cuts(alloc, &problem)?;
+    let mut store = Store::new(alloc, &problem, 0)?;
+    let whole = whole_of(&problem)?;
+    add_line(alloc, &mut store, &problem, &trace, &[at_most(3, 8)])?;
+    let none = store.closes(&problem, &whole);
+    let number = add_line(alloc, &mut store, &problem, &trace, &[])?;
+    add_line(alloc, &mut store, &problem, &trace, &[at_most(3, 24)])?;
+    assert_eq!(rt;
+        (none, number, store.closes(&problem, &whole)),
+        (None, 1, Some(1))
+    );
+    Ok(())
+}
+
 /// The line, shrunk for so many lines of height at the end of the log, where it is good there.
 fn shrunk(
     alloc: Global,
