@@ -1,20 +1,18 @@
 -- The pieces of a round as blocks of cuts, and rounds one after the other.
-use Rattle.std.proofs.Common.{◌≡◌, ◌≢◌, ℕ, ◌+◌, ◌-◌, ◌*◌, ◌<◌, ◌≤◌, ◌==◌, ◌⊎◌, inl, inr, not, zero, suc, true, false, List, [], ◌∷◌}
-use Rattle.std.proofs.Common.{◌++◌, length, map, get_or, take, drop, Option, refl, sym, ap, ◌∙◌, subst, arith, append_assoc}
-use Rattle.std.proofs.Common.{length-append}
-use Rattle.std.specs.List.{All, AllPairs, Contains, filter}
+use Rattle.std.proofs.Common.{◌≡◌, ◌≢◌, ℕ, ◌+◌, ◌<◌, ◌≤◌, ◌==◌, ◌⊎◌, inl, inr, not, suc, true, false, List, [], ◌∷◌}
+use Rattle.std.proofs.Common.{◌++◌, length, map, get_or, drop, Option, refl, sym, ap, ◌∙◌, subst, arith, append_assoc}
+use Rattle.std.specs.List.{All, AllPairs, Contains}
 use Rattle.std.proofs.lemmas.Bool.{eq-eqb, ne_eqb}
-use Rattle.std.proofs.lemmas.List.{append-nil, length-map, take_more, length-drop}
-use Rattle.std.proofs.lemmas.List.Elements.{All-contains, All-map}
+use Rattle.std.proofs.lemmas.List.{length-map}
+use Rattle.std.proofs.lemmas.List.Elements.{All-map}
 use Rattle.std.proofs.Math.Seq.{drop-cons}
-use Rattle.tl_base.proofs.Members.{AllPairs-head, AllPairs-map, Contains-first, Contains-map, Contains-none}
+use Rattle.tl_base.proofs.Members.{AllPairs-head, AllPairs-map, Contains-map}
 use Rattle.tl_problem.specs.declared.placed.Placed.{Placed}
-use Rattle.tl_problem.specs.declared.zone.Range.{Range}
 use Rattle.tl_problem.specs.Problem.{ProblemModel}
 use Rattle.tl_problem.specs.Zones.{whole_zone}
 use Rattle.tl_cert.specs.declared.trace.CutAt.{CutAt}
 use Rattle.tl_cert.specs.Appended.{appended, cut_named, zone_named, IsAppended}
-use Rattle.tl_cert.specs.Traces.{IsZoneOf, Stands, zone_at, zone_of}
+use Rattle.tl_cert.specs.Traces.{Stands, zone_of}
 use Rattle.tl_cert.specs.Worked.{IsClosedZone}
 use Rattle.tl_cert.specs.ZoneOrders.{ComesFrom}
 use Rattle.tl_cert.proofs.AppendedLaws.{named-apart, named-first}
@@ -22,7 +20,7 @@ use Rattle.tl_cert.proofs.TraceLaws.{cuts-there}
 use Rattle.tl_solve.specs.Piece.{IsPieceOf, final_height}
 use Rattle.tl_solve.proofs.WalkLaws.{closed-lower}
 use Rattle.tl_rounds.specs.Book.{IsCovering, IsUpToOpening, lefts_after, without}
-use Rattle.tl_rounds.specs.MadeOfRounds.{IsBlock, AreBlocks, block, no_block, AreRounds, round, no_round, blocks_at, quota_at}
+use Rattle.tl_rounds.specs.MadeOfRounds.{IsBlock, AreBlocks, block, no_block, AreRounds, round, no_round, quota_at}
 use Rattle.tl_rounds.proofs.Covered.{here, app}
 
 -- ---- for a lower height

@@ -1,10 +1,10 @@
 -- A book that has taken in a piece of a zone that was left covers its problem as before.
-use Rattle.std.proofs.Common.{◌≡◌, ◌≢◌, ℕ, ◌+◌, ◌-◌, ◌*◌, ◌<◌, ◌≤◌, ◌==◌, ◌⊎◌, inl, inr, not, true, false, nat_lt, if◌then◌else◌}
-use Rattle.std.proofs.Common.{Bool, List, [], ◌∷◌, ◌++◌, length, map, get_or, Option, Some, None, IfSome, refl, sym, ap, ◌∙◌, subst, arith}
+use Rattle.std.proofs.Common.{◌≡◌, ◌≢◌, ℕ, ◌+◌, ◌<◌, ◌≤◌, ◌==◌, ◌⊎◌, inl, inr, not, true, false, nat_lt, if◌then◌else◌}
+use Rattle.std.proofs.Common.{Bool, List, length, map, get_or, Option, Some, None, IfSome, sym, ap, ◌∙◌, subst, arith}
 use Rattle.std.proofs.Common.{length-append}
 use Rattle.std.proofs.lemmas.List.{length-map}
-use Rattle.std.specs.List.{All, AllPairs, Contains, filter}
-use Rattle.std.proofs.lemmas.Bool.{cases_lt, cases_eq, eq-eqb, ne_eqb}
+use Rattle.std.specs.List.{All, AllPairs, Contains}
+use Rattle.std.proofs.lemmas.Bool.{cases_lt, eq-eqb, ne_eqb}
 use Rattle.std.proofs.lemmas.Bool.Decides.{nat_tests}
 use Rattle.std.proofs.lemmas.List.Elements.{All-append, All-contains, All-map, Contains-append_left, Contains-append_right}
 use Rattle.tl_base.specs.declared.limits.TheConstants.{MAX_BUDGET}
@@ -21,14 +21,14 @@ use Rattle.tl_problem.proofs.SetLaws.{opening-in_whole}
 use Rattle.tl_cert.specs.declared.limits.TheConstants.{MAX_ZONE}
 use Rattle.tl_cert.specs.declared.trace.CutAt.{CutAt}
 use Rattle.tl_cert.specs.Appended.{appended, cut_named, zone_named, IsAppended}
-use Rattle.tl_cert.specs.Traces.{IsKeen, IsZoneOf, Stands, zone_at, zone_of}
+use Rattle.tl_cert.specs.Traces.{IsKeen, Stands, zone_at, zone_of}
 use Rattle.tl_cert.specs.Worked.{IsClosedZone}
 use Rattle.tl_cert.proofs.AppendedLaws.{appended-law, named-apart, named-first}
 use Rattle.tl_cert.proofs.CutParts.{first-whole}
 use Rattle.tl_cert.proofs.TraceLaws.{cuts-there}
 use Rattle.tl_solve.specs.Arenas.{HasBoundBelow}
 use Rattle.tl_solve.specs.declared.piece.Piece.{Piece}
-use Rattle.tl_solve.specs.Piece.{AreLeft, IsPieceOf, final_height}
+use Rattle.tl_solve.specs.Piece.{IsPieceOf, final_height}
 use Rattle.tl_solve.specs.TraceEnds.{CutsBelowOpening}
 use Rattle.tl_solve.proofs.WalkLaws.{closed-lower}
 use Rattle.tl_rounds.specs.declared.book.Book.{Book}

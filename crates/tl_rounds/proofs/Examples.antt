@@ -17,9 +17,9 @@
 --    3  4 5  6
 --   / \
 --  7   8           left after it: 4 5 6 7 8
-use Rattle.std.proofs.Common.{◌≡◌, ◌≢◌, ℕ, ◌+◌, ◌*◌, ◌<◌, ◌≤◌, zero, suc, List, [], ◌∷◌, ◌++◌, ◌⊎◌, inl, inr, length}
+use Rattle.std.proofs.Common.{◌≡◌, ◌≢◌, ℕ, ◌+◌, ◌*◌, ◌<◌, zero, suc, List, [], ◌∷◌, ◌++◌, ◌⊎◌, inl, inr, length}
 use Rattle.std.proofs.Common.{get_or, refl, sym, ◌∙◌, subst, arith}
-use Rattle.std.specs.List.{All, AllByRecursion, AllPairs, Contains}
+use Rattle.std.specs.List.{AllByRecursion, AllPairs, Contains}
 use Rattle.std.proofs.lemmas.List.{get_or_default}
 use Rattle.std.proofs.lemmas.List.Elements.{All-from_recursion}
 use Rattle.tl_base.proofs.Members.{AllPairs-cons, AllPairs-none, Contains-first, Contains-later}
@@ -27,7 +27,7 @@ use Rattle.tl_problem.specs.Problem.{ProblemModel}
 use Rattle.tl_cert.specs.declared.trace.CutAt.{CutAt}
 use Rattle.tl_cert.specs.Traces.{Stands}
 use Rattle.tl_cert.specs.ZoneOrders.{ComesFrom, itself, lower, upper}
-use Rattle.tl_rounds.specs.Book.{lefts_after, lower_of}
+use Rattle.tl_rounds.specs.Book.{lefts_after}
 use Rattle.tl_rounds.specs.MadeOfRounds.{IsBlock, AreBlocks, no_block, block, AreRounds, no_round, round, IsMadeOfRounds}
 use Rattle.tl_rounds.specs.MadeOfRounds.{blocks_of, quota_of}
 

@@ -1,6 +1,6 @@
 -- A book before any cut.
-use Rattle.std.proofs.Common.{◌≡◌, ◌≢◌, ℕ, ◌+◌, ◌*◌, ◌<◌, ◌≤◌, List, [], ◌∷◌, inl, length, sym, subst, arith}
-use Rattle.std.specs.List.{All, AllPairs, Contains}
+use Rattle.std.proofs.Common.{◌≡◌, ◌≢◌, [], ◌∷◌, inl, sym, subst, arith}
+use Rattle.std.specs.List.{Contains}
 use Rattle.std.proofs.lemmas.List.Elements.{All-from_recursion, All-nil}
 use Rattle.tl_base.proofs.Members.{AllPairs-cons, AllPairs-none, Contains-first}
 use Rattle.tl_problem.specs.declared.placed.Placed.{Placed}
@@ -11,7 +11,7 @@ use Rattle.tl_problem.specs.Zones.{whole_zone, InZone}
 use Rattle.tl_problem.specs.Sound.{IsSound}
 use Rattle.tl_problem.proofs.SetLaws.{whole-opening}
 use Rattle.tl_cert.specs.declared.trace.CutAt.{CutAt}
-use Rattle.tl_cert.specs.Traces.{Stands, zone_at, IsZoneOf}
+use Rattle.tl_cert.specs.Traces.{Stands, zone_at}
 use Rattle.tl_solve.specs.Arenas.{HasBoundBelow}
 use Rattle.tl_rounds.specs.Book.{IsCovering, IsUpToOpening}
 

@@ -1,8 +1,8 @@
 -- A book that takes in the pieces of a round, one after the other.
-use Rattle.std.proofs.Common.{◌≡◌, ◌≢◌, ℕ, ◌+◌, ◌-◌, ◌*◌, ◌<◌, ◌≤◌, ◌⊎◌, inl, inr, zero, suc, true, false, nat_lt, Bool, if◌then◌else◌}
+use Rattle.std.proofs.Common.{◌≡◌, ◌≢◌, ℕ, ◌+◌, ◌-◌, ◌*◌, ◌<◌, ◌≤◌, ◌⊎◌, inl, inr, suc, true, false, nat_lt, Bool, if◌then◌else◌}
 use Rattle.std.proofs.Common.{List, [], ◌∷◌, ◌++◌, length, map, get_or, take, drop, Option, Some, None, refl, sym, ap, ◌∙◌, subst}
 use Rattle.std.proofs.Common.{arith, length-append, length-take}
-use Rattle.std.specs.List.{AllPairs, Contains}
+use Rattle.std.specs.List.{Contains}
 use Rattle.std.proofs.Math.Nat.{mul-le-mul_right, suc-mul}
 use Rattle.std.proofs.Math.ListN.{get_or-map}
 use Rattle.std.proofs.Math.Seq.{drop-cons}
@@ -15,18 +15,15 @@ use Rattle.tl_base.proofs.Zips.{AllZip-get_or, AllZip-length}
 use Rattle.tl_problem.specs.declared.zone.Range.{Range}
 use Rattle.tl_problem.specs.declared.placed.Placed.{Placed}
 use Rattle.tl_problem.specs.Problem.{ProblemModel}
-use Rattle.tl_problem.specs.Placements.{IsOpening, IsPlacementIn}
-use Rattle.tl_problem.specs.Sound.{IsSound}
-use Rattle.tl_problem.specs.Zones.{whole_zone, InZone}
 use Rattle.tl_cert.specs.declared.trace.CutAt.{CutAt}
-use Rattle.tl_cert.specs.Appended.{appended, cut_named, zone_named}
-use Rattle.tl_cert.specs.Traces.{IsZoneOf, Stands, zone_at, zone_of}
+use Rattle.tl_cert.specs.Appended.{cut_named, zone_named}
+use Rattle.tl_cert.specs.Traces.{IsZoneOf, zone_of}
 use Rattle.tl_solve.specs.declared.piece.Piece.{Piece}
 use Rattle.tl_solve.specs.Arenas.{IsLowered}
 use Rattle.tl_solve.specs.Piece.{IsPieceOf, final_height}
 use Rattle.tl_solve.proofs.ArenaLaws.{lowered-le, lowered-next}
 use Rattle.tl_rounds.specs.declared.book.Book.{Book}
-use Rattle.tl_rounds.specs.Book.{IsBook, IsCovering, IsPieceFor, IsTaken, IsUpToOpening, lefts_after, lower_of, problem_of}
+use Rattle.tl_rounds.specs.Book.{IsBook, IsCovering, IsPieceFor, IsTaken, IsUpToOpening, lower_of, problem_of}
 use Rattle.tl_rounds.specs.Fans.{ArePiecesOf}
 use Rattle.tl_rounds.specs.MadeOfRounds.{AreBlocks, block, no_block, AreRounds, round, blocks_at, quota_at}
 use Rattle.tl_rounds.specs.inner.Takings.{IsRoundTaken, IsTakenSoFar}

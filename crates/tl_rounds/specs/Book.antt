@@ -1,6 +1,6 @@
 -- The book of a search in pieces: the cuts of all pieces that were taken in, the zones that are left, and the best placement.
 -- It covers all layouts: each zone that stands is left, or holds no layout that is lower than the best placement.
-use Rattle.std.specs.Prelude.{◌≡◌, ℕ, ◌+◌, ◌≤◌, ◌==◌, ◌⊎◌, not, nat_lt, if◌then◌else◌, List, ◌++◌, length, map, Option, Some, None}
+use Rattle.std.specs.Prelude.{◌≡◌, ℕ, ◌≤◌, ◌==◌, ◌⊎◌, not, nat_lt, if◌then◌else◌, List, ◌++◌, length, map, Option, Some, None}
 use Rattle.std.specs.List.{Contains, filter}
 use Rattle.tl_base.specs.declared.limits.TheConstants.{MAX_BUDGET}
 use Rattle.tl_problem.specs.declared.placed.Placed.{Placed}

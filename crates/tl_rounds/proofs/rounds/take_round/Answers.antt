@@ -1,17 +1,16 @@
-use Rattle.std.proofs.Common.{◌≡◌, ◌∙◌, ◌+◌, ◌-◌, ◌*◌, ◌^◌, ◌<◌, ◌≤◌, List, Ok, length, map, take, refl, sym, ap, subst, arith}
+use Rattle.std.proofs.Common.{◌≡◌, ◌∙◌, ◌+◌, ◌-◌, ◌*◌, ◌^◌, ◌<◌, ◌≤◌, List, length, map, take, sym, ap, subst, arith}
 use Rattle.std.specs.List.{All}
 use Rattle.std.proofs.lemmas.Result.{on_ok_weaker}
 use Rattle.tl_base.specs.declared.limits.TheConstants.{MAX_BUDGET}
 use Rattle.tl_problem.specs.declared.placed.Placed.{Placed}
 use Rattle.tl_problem.specs.declared.zone.Range.{Range}
-use Rattle.tl_problem.specs.Problem.{ProblemModel}
 use Rattle.tl_problem.specs.Sound.{IsSound}
 use Rattle.tl_problem.specs.Zones.{IsZone}
 use Rattle.tl_cert.specs.Traces.{zone_of}
 use Rattle.tl_rounds.specs.Book.{problem_of}
 use Rattle.tl_rounds.specs.Fans.{ArePiecesOf}
 use Rattle.tl_rounds.specs.MadeOfRounds.{blocks_at, quota_at, quota_of}
-use Rattle.tl_rounds.specs.inner.Takings.{IsRoundTaken, IsTakenSoFar}
+use Rattle.tl_rounds.specs.inner.Takings.{IsTakenSoFar}
 use Rattle.tl_rounds.proofs.RoundLaws.{blocks-most, blocks-some, pieces-count, round-few, round-taken, zones-count, zones-many}
 use Rattle.tl_rounds.proofs.Shares.{quota-most, share-some}
 use Rattle.tl_rounds.proofs.rounds.take_round.Goals as goal

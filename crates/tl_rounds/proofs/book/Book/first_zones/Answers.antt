@@ -1,8 +1,8 @@
-use Rattle.std.proofs.Common.{◌≡◌, ◌<◌, ◌≤◌, get_or, length, map, take, sym, ap, ◌∙◌, subst, arith}
+use Rattle.std.proofs.Common.{◌≡◌, ◌<◌, get_or, length, take, sym, ap, ◌∙◌, subst, arith}
 use Rattle.std.specs.List.{All}
 use Rattle.std.proofs.lemmas.List.Elements.{All-map, All-take}
 use Rattle.tl_problem.specs.Zones.{IsZone}
-use Rattle.tl_cert.specs.Traces.{Stands, zone_of}
+use Rattle.tl_cert.specs.Traces.{zone_of}
 use Rattle.tl_rounds.specs.Book.{problem_of}
 use Rattle.tl_rounds.proofs.Items.{book-zone, zone-item, zones-next, zones-there}
 use Rattle.tl_rounds.proofs.book.Book.first_zones.Goals as goal

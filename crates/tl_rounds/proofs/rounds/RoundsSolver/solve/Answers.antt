@@ -1,4 +1,4 @@
-use Rattle.std.proofs.Common.{◌≡◌, ◌⊎◌, ◌≤◌, true, false, [], inl, inr, length, subst, arith}
+use Rattle.std.proofs.Common.{◌≡◌, ◌⊎◌, true, false, [], inl, inr, length, subst, arith}
 use Rattle.tl_solve.specs.Solver.{IsSolverOutcome}
 use Rattle.tl_rounds.proofs.Endings.{may-end, way-begun, way-falls, way-on, way-outcome}
 use Rattle.tl_rounds.proofs.rounds.RoundsSolver.solve.Goals as goal
