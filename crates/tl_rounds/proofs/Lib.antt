@@ -1,4 +1,4 @@
-mod Covered
+pub mod Covered
 mod Opened
 mod Items
 mod Places
