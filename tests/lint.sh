@@ -27,7 +27,8 @@ else
 fi
 
 if command -v groff >/dev/null; then
-    [ -z "$(groff -ww -z -mdoc -T utf8 command/tablelayout.1 2>&1 | tee /dev/stderr)" ] || failed=1
+    said=$(groff -ww -z -mdoc -T utf8 command/tablelayout.1 2>&1)
+    [ -z "$said" ] || { echo "$said" && failed=1; }
 else
     skip groff "so the manual page is not looked at by it"
 fi
