@@ -262,7 +262,8 @@ class Runs:
         (self.folder / "in").write_bytes(make(rng))
         kind, width = make.__name__.replace("_", " "), str(rng.choice((1, 3, 9, 20, 40, 60, 80, 120, 500)))
         given, searched = options(rng, make), rng.choice(([], ["--budget", rng.choice(("0", "1", "20", "500"))], ["--solver", "plain"],
-                                                          ["--solver", "learn", "--budget", "50"]))
+                                                          ["--solver", "learn", "--budget", "50"],
+                                                          ["--solver", "rounds", "--budget", "50"]))
         self.lay(number, kind, ["lay", width], given, searched)
         if (self.folder / "cert").exists():
             self.change(number, rng, given)

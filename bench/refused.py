@@ -42,6 +42,7 @@ LAYOUTS = [
     (0, "lowest height 4 width 16", BOTH, "lay 25 in page cert", FOUR),
     (0, "lowest height 4 width 16", BOTH, "lay 25 in page cert --budget 7 --solver plain", FOUR),
     (0, "lowest height 4 width 16", BOTH, "lay 25 in page cert --budget 3 --solver learn", FOUR),
+    (0, "lowest height 4 width 16", BOTH, "lay 25 in page cert --budget 16 --solver rounds --workers 2", FOUR),
     (0, "lowest height 1 width 12", BOTH, "lay 12 in page cert --workers 2", BESIDE),
     (0, "lowest height 3 width 10", BOTH, "lay 10 in page cert --csv --head --least 3", RECORDS),
 ]
