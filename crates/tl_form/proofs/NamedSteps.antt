@@ -37,7 +37,7 @@ use Rattle.tl_table.specs.declared.layout.Layout.{Layout, out-Layout}
 use Rattle.tl_form.specs.Expected.{Document, IsTableOf, own_number, placed_width}
 use Rattle.tl_table.specs.Layouts.{Fits}
 use Rattle.tl_table.specs.Least.{IsLeastWidth}
-use Rattle.tl_form.specs.Named.{IsNamed, IsChosen, IsLaidWithin, IsNamedLayoutBy, IsPlacementOf}
+use Rattle.tl_form.specs.Named.{IsNamed, IsChosen, IsLaidWithin, IsLastPlacement, IsNamedLayoutBy, IsPlacementOf}
 use Rattle.tl_form.specs.Nested.{IsPlacedWithin, IsProblemFor}
 use Rattle.tl_form.specs.ProblemLaws.{LayoutsAreByLow, LayoutsByHighFit}
 use Rattle.tl_form.specs.Problems.{InnerNeeds, IsCellBy}
@@ -48,7 +48,7 @@ use Rattle.tl_form.specs.ValidLaws.{HasHeight}
 use Rattle.tl_form.proofs.ProblemTruth.{cell-inside, fits-low, high-fits}
 use Rattle.tl_form.proofs.NamedLaws.{named_layout}
 use Rattle.tl_table.proofs.SoundParts.{at_item, both_each, each_joined}
-use Rattle.tl_form.proofs.ValidLaws.{IsOwnLast, own_last}
+use Rattle.tl_form.proofs.ValidLaws.{IsOwnLast, no_section, own_last}
 use Rattle.tl_table.proofs.TableNumbers.{sound_among}
 use Rattle.tl_form.proofs.Truth.{IsTrue, all_true, height_from, nested_among, steps_found}
 use Rattle.tl_form.specs.inner.Naming.{CanLay, HasLayoutRoom, HasRooms, IsLaidIn, IsLaidOut, IsPart, IsPlacedBy, LaysOut}
@@ -486,6 +486,50 @@ module _ (table : Table) (style : Style) (certificate : Certificate) (sound : Is
   fits_of layout laid height has =
       named_layout by_low by_high table style certificate.width certificate.budget certificate height layout sound valid has
       (named_of layout laid)
+
+  -- the last section
+  abbrev last : Section
+  last = get_or certificate.sections (length certificate.sections - 1) no_section
+
+  last_there : length certificate.sections - 1 < length certificate.sections
+  last_there = omega (arith, some_section)
+
+  last_is : last ≡ get_or certificate.sections (length certificate.sections - 1) last
+  last_is = get_or_default certificate.sections (length certificate.sections - 1) no_section last last_there
+
+  -- the placement of the last section is its own in each document that has the table as a part
+  module _ (placed : Placed) (is : IsLastPlacement table style certificate.width certificate.sections placed) where
+    abbrev before : List Section
+    before = take (length certificate.sections - 1) certificate.sections
+
+    for_last : (problem : ProblemModel) × IsProblemFor table style last.width before problem × HasPlacement last problem placed
+    for_last =
+        let found = is.2 no_section in (
+          found.0,
+          subst (λ s. IsProblemFor table s last.width before found.0) is.1.drawn
+              (for_one is.0 (subst IsSound (sym is.1.same) sound) before last table
+              (record { among = inl is.1.same; numbered = sym (last_own no_section) }) found.0 found.1),
+          found.2,
+        )
+
+    pub last_placed : IsPlacedBy style certificate.sections (length certificate.sections - 1) table placed
+    last_placed = λ document budget part. placed_part document budget style certificate.sections table part
+        (length certificate.sections - 1) last_there last last_is (sym (last_own no_section)) for_last.0 placed for_last.1
+        for_last.2
+
+    pub last_rooms : HasRooms style certificate.sections (out-Table table) placed
+    last_rooms = rooms_part valid.0 certificate.budget style certificate.sections table part_of_valid
+        (length certificate.sections - 1) last_there last last_is (sym (last_own no_section)) for_last.0 for_last.1
+        placed.widths for_last.2.tight.placement.page
+        (subst (λ (s : Section). s.width ≤ MAX_PAGE_WIDTH) (sym last_is)
+        (part_of_valid.small (length certificate.sections - 1) last last_there).narrow)
+        placed refl
+
+  -- the placement that belongs to the last section
+  pub placed_last : (placed : Placed) →
+      IsPlacedBy style certificate.sections (length certificate.sections - 1) table placed →
+      IsLastPlacement table style certificate.width certificate.sections placed
+  placed_last placed by = (valid.0, valid.1, by valid.0 certificate.budget part_of_valid)
 
 pub ok_so : {X E : Type 0} (P Q : X → Type 0) (result : Result X E) → ((x : X) → P x → Q x) → IfOk result P → IfOk result Q
 ok_so P Q (Ok x) so is = so x is

@@ -26,11 +26,19 @@ pub record IsChosen (style : Style) (sections : List Section) (number w i : ℕ)
   pub first : (j : ℕ) (d : Section) → j < i → IsPlacedWithin style number w (get_or sections j d) →
       (get_or sections i d).height < (get_or sections j d).height
 
+-- the placement of a section, on its own problem after the sections before it
+abbrev pub IsPlacementAt : Document → List Section → Section → Placed → Type 0
+IsPlacementAt document before section placed = (problem : ProblemModel) × IsProblemAt document before section problem
+    × HasPlacement section problem placed
+
 -- the placement of section `i`, on its own problem
 abbrev pub IsPlacementOf : Document → List Section → ℕ → Placed → Type 0
-IsPlacementOf document sections i placed = (d : Section) → (problem : ProblemModel)
-    × IsProblemAt document (take i sections) (get_or sections i d) problem
-    × HasPlacement (get_or sections i d) problem placed
+IsPlacementOf document sections i placed = (d : Section) → IsPlacementAt document (take i sections) (get_or sections i d) placed
+
+-- the placement of the last section, in the document of the table on a page in a style
+abbrev pub IsLastPlacement : Table → Style → ℕ → List Section → Placed → Type 0
+IsLastPlacement table style page sections placed = (document : Document) × IsDocumentOf table style page document
+    × IsPlacementOf document sections (length sections - 1) placed
 
 -- the tables nested in a cell are laid out in its room; `laid` says how a nested table is
 abbrev pub AreLaidIn : (Table → ℕ → Layout → Type 0) → ℕ → OpenCell → List Layout → Type 0

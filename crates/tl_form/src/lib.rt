@@ -23,7 +23,7 @@ pub use closed_laws::{budget_closes, closed_tell_least};
 pub use due_laws::sections_give_sound_problems;
 pub use heights::InnerSteps;
 pub use laid::{Laid, lay, problem_for};
-pub use named::layout;
+pub use named::{layout, layout_with};
 pub use nested_steps::inner_steps;
 pub use open_laws::open_spends;
 pub use problem_laws::{

@@ -13,13 +13,13 @@ ghost use Rattle.tl_table.specs.declared.cell.Table.{out-Table};
 ghost use Rattle.tl_table.specs.declared.cell.TableCell.{out-TableCell};
 ghost use Rattle.tl_form.specs.Expected.{placed_width};
 ghost use Rattle.tl_table.specs.Layouts.{Fits};
-ghost use Rattle.tl_form.specs.Named.{IsChosen, IsNamed};
+ghost use Rattle.tl_form.specs.Named.{IsChosen, IsLastPlacement, IsNamed};
 ghost use Rattle.tl_form.specs.Nested.{IsPlacedWithin};
 ghost use Rattle.tl_table.specs.Sound.{IsSound};
 ghost use Rattle.tl_table.specs.Tables.{tables_in, tables_of};
 ghost use Rattle.tl_form.specs.Valid.{IsValid};
 ghost use Rattle.tl_form.specs.ValidLaws.{HasHeight};
-ghost use Rattle.tl_form.specs.inner.Naming.{CanLay, HasPart, HasRooms, HaveFewColumns, IsLaidOut, IsLower, IsPlacedBy, LaysOut, NoneWithin};
+ghost use Rattle.tl_form.specs.inner.Naming.{CanLay, HasPart, HasRooms, HaveFewColumns, IsLaidWith, IsLower, IsPlacedBy, LaysOut, NoneWithin};
 
 use crate::laid::lay;
 use std::alloc::{AllocError, Global};
@@ -91,21 +91,18 @@ fn placed_by(
     Ok(laid.into_placed())
 }
 
-/// The layout of the table by the section with this place in the certificate.
+/// The layout of the table with the placement of one of its sections.
 #[cycle(layout)]
-fn layout_by(
+fn layout_on(
     alloc: Global,
     table: &Table,
     style: Style,
     sections: &[Section],
-    at: usize,
+    placed: Placed,
 ) -> Result<Layout, AllocError>
-    requires part { HasPart style sections.now table.now }
-    requires there { at < length sections.now }
-    requires own { (d : Section) → (get_or sections.now at d).table ≡ (out-Table table.now).number }
-    ensures { IfOk result (IsLaidOut style sections.now at table.now) }
+    requires { HasRooms style sections.now (out-Table table.now) placed }
+    ensures { IfOk result (IsLaidWith style sections.now table.now placed) }
 {
-    let placed = placed_by(alloc, table, style, sections, at)?;
     let mut inner = List::new(alloc);
     for cell in table.cells.as_slice() {
         inner = with_cell(
@@ -169,7 +166,8 @@ fn with_block(
         Content::Para(_) => Ok(inner),
         Content::Table(table) => {
             let at = chosen(sections, style, table.number, room).unwrap();
-            let layout = layout_by(alloc, table, style, sections, at)?;
+            let placed = placed_by(alloc, table, style, sections, at)?;
+            let layout = layout_on(alloc, table, style, sections, placed)?;
             inner.push(layout)?;
             Ok(inner)
         }
@@ -194,5 +192,27 @@ pub fn layout(
         Fits table.now style certificate.now.width height layout) }
 {
     let sections = certificate.sections.as_slice();
-    layout_by(alloc, table, style, sections, sections.len() - 1)
+    let placed = placed_by(alloc, table, style, sections, sections.len() - 1)?;
+    layout_with(alloc, table, style, certificate, placed)
+}
+
+/// The same layout, with the placement of the last section, which a search has at hand: it is not found
+/// again from the section's widths.
+pub fn layout_with(
+    alloc: Global,
+    table: &Table,
+    style: Style,
+    certificate: &Certificate,
+    placed: Placed,
+) -> Result<Layout, AllocError>
+    requires sound { IsSound table.now }
+    requires written { IsWritable certificate.now }
+    requires valid { IsValid table.now style certificate.now.width certificate.now.budget certificate.now }
+    requires wide_enough { IsNarrow certificate.now.claim → ⊥ }
+    requires placed { IsLastPlacement table.now style certificate.now.width certificate.now.sections placed }
+    ensures named { IfOk result (IsNamed table.now style certificate.now) }
+    ensures fits { IfOk result (λ layout. (height : ℕ) → HasHeight certificate.now.claim height →
+        Fits table.now style certificate.now.width height layout) }
+{
+    layout_on(alloc, table, style, certificate.sections.as_slice(), placed)
 }

@@ -1,5 +1,5 @@
 -- A section that is due, made of an outcome for its problem, and one more section of a list.
-use Rattle.std.proofs.Common.{◌≡◌, ◌∙◌, ℕ, ◌+◌, ◌-◌, ◌*◌, ◌≤◌, List, [], ◌∷◌, ◌++◌, inl, inr, length, get_or, take, Option, None}
+use Rattle.std.proofs.Common.{◌≡◌, ◌∙◌, ℕ, ◌+◌, ◌-◌, ◌*◌, ◌<◌, ◌≤◌, List, [], ◌∷◌, ◌++◌, inl, inr, length, get_or, take, Option, None}
 use Rattle.std.proofs.Common.{Some, Result, Ok}
 use Rattle.std.proofs.Common.{refl, sym, ap, subst, arith}
 use Rattle.std.specs.declared.alloc.AllocError.{AllocError}
@@ -12,6 +12,7 @@ use Rattle.std.proofs.lemmas.List.{get_or_append_left, length_push, take_all, ta
 use Rattle.tl_base.specs.declared.limits.TheConstants.{MAX_FILE_BYTES, MAX_PAGE_WIDTH}
 use Rattle.tl_base.specs.declared.style.Style.{Style}
 use Rattle.tl_base.specs.Style.{gap_of, edge_of}
+use Rattle.tl_problem.specs.declared.placed.Placed.{Placed}
 use Rattle.tl_problem.specs.Problem.{ProblemModel}
 use Rattle.tl_base.specs.Sizes.{total}
 use Rattle.tl_problem.specs.Sound as problem_sound
@@ -21,6 +22,7 @@ use Rattle.tl_table.specs.declared.cell.Table.{Table}
 use Rattle.tl_form.specs.declared.subject.Subject.{Subject}
 use Rattle.tl_form.specs.DueProblems.{SectionsGiveSoundProblems}
 use Rattle.tl_form.specs.Expected.{Document, Due, own_number, placed_width, first_due, next_due, due_after}
+use Rattle.tl_form.specs.Named.{IsPlacementAt, IsPlacementOf}
 use Rattle.tl_table.specs.Sound.{table_size}
 use Rattle.tl_form.specs.Subjects.{IsSubject, meant}
 use Rattle.tl_form.specs.Valid.{AreGoodBelow, IsGood, IsProblemAt}
@@ -59,6 +61,9 @@ module _ (subject : Subject) (is : IsSubject subject) (fits : IsWideEnough subje
     gives = gives;
     same = record { height = refl; lower = refl; widths = refl; trace = refl; log = refl };
   }
+
+  pub placement : IsPlacementAt (meant subject) before (section_of now outcome) outcome.best
+  placement = (problem, at, record { wide = refl; high = refl; tight = solved.tight })
 
   pub placed_as : outcome.best.width ≡ placed_width subject.style (section_of now outcome)
   placed_as =
@@ -158,6 +163,22 @@ more_so_far given document budget before more now section placed next may_be so_
       writable = push_writable before section so_far.writable written_one;
     }))
 
+-- the placement of one more section is that of the last
+pub last_placement : (document : Document) (before more : List Section) (section : Section) (placed : Placed) →
+    IsPlacementAt document before section placed → more ≡ before ++ section ∷ [] →
+    IsPlacementOf document more (length more - 1) placed
+last_placement document before more section placed is push =
+    subst (λ all. IsPlacementOf document all (length all - 1) placed) (sym push) (λ d.
+    let all = before ++ section ∷ [] in
+    let n : length all - 1 ≡ length before = omega (arith, length_push before section) in
+    let one : get_or all (length all - 1) d ≡ section =
+    ap (λ j. get_or all j d) n ∙ get_or-append_seam before section [] d in
+    let those : take (length all - 1) all ≡ before =
+    take-append-le (length all - 1) before (section ∷ []) (omega (arith, n))
+    ∙ take_all (length all - 1) before (omega (arith, n)) in
+    subst (λ one. IsPlacementAt document (take (length all - 1) all) one placed) (sym one)
+    (subst (λ those. IsPlacementAt document those section placed) (sym those) is))
+
 pub good_so_far : (given : ProblemModel → Outcome → Type 0) (document : Document) (budget : ℕ) (sections : List Section) →
     EachIsSearched given document budget sections → AreGoodBelow document budget sections (length sections)
 good_so_far given document budget sections each = λ i d within. (each i d within).good
@@ -175,6 +196,29 @@ within_due document budget before section now placed good due same =
     width_of : Option Due → ℕ
     width_of None = 0
     width_of (Some one) = one.width
+
+-- ---- the section that is due, searched and put at the end
+
+module _ (given : ProblemModel → Outcome → Type 0) (subject : Subject) (is : IsSubject subject) (fits : IsWideEnough subject)
+    (budget : ℕ) (before : List Section) (now : Due) (so_far : AreSoFar given (meant subject) budget before (Some now)) where
+  pub due_may : MayBeDue (meant subject) now
+  due_may = may subject is fits before budget (good_so_far given (meant subject) budget before so_far.each) now so_far.due
+
+  module _ (section : Section) (placed : ℕ) (one : IsSearched given (meant subject) budget before section)
+      (same : placed ≡ placed_width subject.style section) where
+    within : placed ≤ now.width
+    within = within_due (meant subject) budget before section now placed one.good so_far.due same
+
+    pub left_after : (next : Option Due) → next ≡ next_due (meant subject) now.table placed →
+        sections_left (meant subject) next < sections_left (meant subject) (Some now)
+    left_after next next_is = subst (λ o. sections_left (meant subject) o < sections_left (meant subject) (Some now))
+        (sym next_is) (left_falls (meant subject) now due_may placed within)
+
+    pub so_far_after : (more : List Section) (next : Option Due) → IsSectionWritable section → more ≡ before ++ section ∷ [] →
+        next ≡ next_due (meant subject) now.table placed → AreSoFar given (meant subject) budget more next
+    so_far_after more next writable_one push next_is =
+        more_so_far given (meant subject) budget before more now section placed next due_may so_far one writable_one same within
+        push next_is
 
 -- ---- the end
 

@@ -5,11 +5,12 @@ ghost use Rattle.std.specs.List.{All};
 ghost use Rattle.tl_base.specs.declared.limits.TheConstants.{MAX_BUDGET};
 ghost use Rattle.tl_cert.specs.Text.{IsSectionWritable};
 ghost use Rattle.tl_form.specs.Expected.{due_after, least_of, own_number, placed_width};
+ghost use Rattle.tl_form.specs.Named.{IsPlacementAt};
 ghost use Rattle.tl_form.specs.Subjects.{IsSubject, due_of, meant};
 ghost use Rattle.tl_form.specs.Valid.{AreGoodBelow};
 ghost use Rattle.tl_nested.specs.Searched.{IsSearched, IsWideEnough};
 ghost use Rattle.tl_nested.specs.Solved.{GivesOutcome, SearchesEach, SolvesEach};
-ghost use Rattle.tl_nested.specs.inner.Found.{IsFoundFor, section_of};
+ghost use Rattle.tl_nested.specs.inner.Found.{IsFoundFor, found_of};
 
 use crate::searching::problem_at;
 use std::alloc::{AllocError, Global};
@@ -23,37 +24,30 @@ use tl_solve::Outcome;
 #[derive(Drop)]
 pub struct Found {
     pub section: Section,
-    /// The columns that the placement takes.
-    pub placed: u32,
+    /// The placement of the section.
+    pub placed: Placed,
 }
 
-/// The section of an outcome of the search that is due.
-fn found_of(due: Due, outcome: Outcome) -> Found
-    ensures section { result.section ≡ section_of (due_of due) outcome }
-    ensures placed { result.placed ≡ outcome.best.width }
+/// The section of an outcome of the search that is due, with its placement.
+fn found_of(alloc: Global, due: Due, outcome: Outcome) -> Result<Found, AllocError>
+    ensures { IfOk result (λ found. found ≡ found_of (due_of due) outcome) }
 {
     let Outcome {
-        best,
+        best: placed,
         lower,
         trace,
         log,
     } = outcome;
-    let Placed {
-        widths,
-        heights: _,
-        width: placed,
-        height,
-    } = best;
     let section = Section {
         table: due.table,
         width: due.width,
-        height,
+        height: placed.height,
         lower,
-        widths,
+        widths: List::from_slice(alloc, placed.widths.as_slice())?,
         trace,
         log,
     };
-    Found { section, placed }
+    Ok(Found { section, placed })
 }
 
 /// Searches the section that is due, on the sections before it.
@@ -74,13 +68,14 @@ pub fn search<F: Fn(&Problem, u32) -> Result<Outcome, AllocError>>(
     requires solves { SolvesEach F.Fn solve.now budget }
     ensures searched { IfOk result (λ found. IsSearched (GivesOutcome F.Fn solve.now budget) (meant subject.now) budget before.now
         found.section) }
-    ensures placed { IfOk result (λ found. found.placed ≡ placed_width subject.now.style found.section) }
+    ensures placed { IfOk result (λ found. IsPlacementAt (meant subject.now) before.now found.section found.placed) }
+    ensures width { IfOk result (λ found. found.placed.width ≡ placed_width subject.now.style found.section) }
     ensures writable { IfOk result (λ found. IsSectionWritable found.section) }
 {
     sections_give_sound_problems();
     let problem = problem_at(alloc, subject, due, before)?;
     let outcome = solve(&problem, budget)?;
-    Ok(found_of(due, outcome))
+    found_of(alloc, due, outcome)
 }
 
 /// Searches a table at a width, on the sections that are told. `None` where they make no sound problem of it.
@@ -102,14 +97,14 @@ fn search_on<F: Fn(&Problem, u32) -> Result<Outcome, AllocError>>(
     requires solves { SolvesEach F.Fn solve.now budget }
     ensures found { IfOk result (λ some. IfSome some (λ found. IsFoundFor (GivesOutcome F.Fn solve.now budget)
         (meant subject.now) budget told.now due.table found.section)) }
-    ensures narrow { IfOk result (λ some. IfSome some (λ found. found.placed ≤ due.width)) }
+    ensures narrow { IfOk result (λ some. IfSome some (λ found. found.placed.width ≤ due.width)) }
 {
     let table = subject.table_of(due.table);
     let Some(problem) = problem_for(alloc, table, subject.style, due.width, told)? else {
         return Ok(None);
     };
     let outcome = solve(&problem, budget)?;
-    Ok(Some(found_of(due, outcome)))
+    Ok(Some(found_of(alloc, due, outcome)?))
 }
 
 /// The next width of a table after a placement of so many columns: one less, where it has a layout there.
@@ -156,7 +151,7 @@ pub fn table_sections<F: Fn(&Problem, u32) -> Result<Outcome, AllocError>>(
         };
         let Found { section, placed } = found;
         sections.push(section)?;
-        width = narrower(placed, least);
+        width = narrower(placed.width, least);
     }
     Ok(sections)
 }

@@ -12,5 +12,5 @@ mod searching;
 #[cfg(test)]
 mod tests;
 
-pub use make::{Make, sections};
-pub use searching::{problem_at, sections_by};
+pub use make::{Make, laid_sections, sections};
+pub use searching::{LaidSections, problem_at, sections_by};

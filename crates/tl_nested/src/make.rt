@@ -2,6 +2,7 @@
 
 ghost use Rattle.std.specs.Prelude.{ℕ, ◌≤◌, IfOk};
 ghost use Rattle.tl_base.specs.declared.limits.TheConstants.{MAX_BUDGET, MAX_PAGE_WIDTH};
+ghost use Rattle.tl_form.specs.Named.{IsLastPlacement};
 ghost use Rattle.tl_table.specs.Least.{IsLeastWidth};
 ghost use Rattle.tl_table.specs.Sound.{IsSound};
 ghost use Rattle.tl_nested.specs.Searched.{AreSectionsOf, AreWritable};
@@ -9,7 +10,7 @@ ghost use Rattle.tl_problem.specs.Problem.{ProblemModel};
 ghost use Rattle.tl_solve.specs.declared.outcome.Outcome.{Outcome};
 ghost use Rattle.tl_solve.specs.Solver.{IsSolverOutcome};
 
-use crate::searching::sections_by;
+use crate::searching::{LaidSections, sections_by};
 use std::alloc::{AllocError, Global};
 use std::thread::Threads;
 use tl_base::{Gate, List, Style};
@@ -59,6 +60,36 @@ pub fn sections<R: Threads + Sync, M: Make, G: Gate>(
     ensures expected { IfOk result (AreSectionsOf (λ problem outcome. M.besides maker.now problem budget outcome) table.now
         style width budget) }
     ensures writable { IfOk result AreWritable }
+{
+    let LaidSections {
+        sections,
+        placed: _placed,
+    } = laid_sections(rt, alloc, table, style, width, budget, workers, maker, gate)?;
+    Ok(sections)
+}
+
+/// The same sections, with the placement that was found for the last of them.
+pub fn laid_sections<R: Threads + Sync, M: Make, G: Gate>(
+    rt: &R,
+    alloc: Global,
+    table: &Table,
+    style: Style,
+    width: u32,
+    budget: u32,
+    workers: u32,
+    maker: &M,
+    gate: &G,
+) -> Result<LaidSections, AllocError>
+    requires ready { M.can_make maker.now }
+    requires workers { 1 ≤ workers }
+    requires sound { IsSound table.now }
+    requires narrow { width ≤ MAX_PAGE_WIDTH }
+    requires wide { (least : ℕ) → IsLeastWidth table.now style least → least ≤ width }
+    requires cuts { budget ≤ MAX_BUDGET }
+    ensures expected { IfOk result (λ laid. AreSectionsOf (λ problem outcome. M.besides maker.now problem budget outcome)
+        table.now style width budget laid.sections) }
+    ensures writable { IfOk result (λ laid. AreWritable laid.sections) }
+    ensures placed { IfOk result (λ laid. IsLastPlacement table.now style width laid.sections laid.placed) }
 {
     let solve = |problem: &Problem, budget: u32| -> Result<Outcome, AllocError>
         requires { M.can_make maker.now × (budget ≤ MAX_BUDGET) }

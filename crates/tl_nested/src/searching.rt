@@ -5,6 +5,7 @@ ghost use Rattle.std.specs.Prelude.{◌≡◌, ℕ, ◌≤◌, IfOk, Some, lengt
 ghost use Rattle.tl_base.specs.declared.limits.TheConstants.{MAX_BUDGET, MAX_PAGE_WIDTH};
 ghost use Rattle.tl_cert.specs.declared.section.Section.{Section};
 ghost use Rattle.tl_form.specs.Expected.{due_after};
+ghost use Rattle.tl_form.specs.Named.{IsLastPlacement};
 ghost use Rattle.tl_table.specs.Least.{IsLeastWidth};
 ghost use Rattle.tl_table.specs.Sound.{IsSound};
 ghost use Rattle.tl_form.specs.Subjects.{IsSubject, due_of, meant};
@@ -19,7 +20,7 @@ use std::thread::Threads;
 use tl_base::{Gate, List, Style};
 use tl_cert::Section;
 use tl_form::{Due, Subject, problem_for, sections_give_sound_problems};
-use tl_problem::Problem;
+use tl_problem::{Placed, Problem};
 use tl_solve::Outcome;
 use tl_table::Table;
 
@@ -44,10 +45,18 @@ pub fn problem_at(
     Ok(problem)
 }
 
+/// The sections of a certificate, with the placement that was found for the last of them.
+#[derive(Drop)]
+pub struct LaidSections {
+    pub sections: List<Section>,
+    pub placed: Placed,
+}
+
 /// All sections of a certificate of the table on a page of `width` columns, each by a call of `solve` with
 /// its own problem and the budget: of each nested table, from the greatest number down, one on the whole
 /// page, and then one a column narrower than the placement before, as long as the table has a layout there;
-/// last one of the table itself. The steps of nested tables come from the sections before.
+/// last one of the table itself. The steps of nested tables come from the sections before. The placement
+/// of the last section is the one that its search found, made tight.
 ///
 /// Nested tables of one depth do not need one another: from the greatest depth on, those of one depth are
 /// searched by so many `workers` at one time, each table a piece of work behind the gate by its number. What
@@ -66,7 +75,7 @@ pub fn sections_by<
     workers: u32,
     solve: &F,
     gate: &G,
-) -> Result<List<Section>, AllocError>
+) -> Result<LaidSections, AllocError>
     requires workers { 1 ≤ workers }
     requires sound { IsSound table.now }
     requires narrow { width ≤ MAX_PAGE_WIDTH }
@@ -74,25 +83,31 @@ pub fn sections_by<
     requires cuts { budget ≤ MAX_BUDGET }
     requires callable { SearchesEach F.Fn solve.now budget }
     requires solves { SolvesEach F.Fn solve.now budget }
-    ensures expected { IfOk result (AreSectionsOf (GivesOutcome F.Fn solve.now budget) table.now style width budget) }
-    ensures writable { IfOk result AreWritable }
+    ensures expected { IfOk result (λ laid. AreSectionsOf (GivesOutcome F.Fn solve.now budget) table.now style width budget
+        laid.sections) }
+    ensures writable { IfOk result (λ laid. AreWritable laid.sections) }
+    ensures placed { IfOk result (λ laid. IsLastPlacement table.now style width laid.sections laid.placed) }
 {
     sections_give_sound_problems();
     let subject = Subject::of(alloc, table, style, width)?;
     let found = nested_sections(rt, alloc, gate, workers, &subject, budget, solve)?;
-    let Begun { mut sections, due } = begin(alloc, &subject, found);
-    let mut due = Some(due);
-    while let Some(now) = due {
+    let Begun {
+        mut sections,
+        mut due,
+    } = begin(alloc, &subject, found);
+    loop {
         let Found { section, placed } = search(
             alloc,
             &subject,
-            now,
+            due,
             budget,
             solve,
             sections.as_slice(),
         )?;
         sections.push(section)?;
-        due = subject.next_due(now.table, placed);
+        match subject.next_due(due.table, placed.width) {
+            Some(next) => due = next,
+            None => return Ok(LaidSections { sections, placed }),
+        }
     }
-    Ok(sections)
 }

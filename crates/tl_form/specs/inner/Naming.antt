@@ -74,6 +74,11 @@ abbrev pub IsPlacedBy : Style → List Section → ℕ → Table → Placed → 
 IsPlacedBy style sections at table placed = (document : Document) (budget : ℕ) → IsPart document budget style sections table →
     IsPlacementOf document sections at placed
 
+-- the table is laid out by each section whose placement this is
+abbrev pub IsLaidWith : Style → List Section → Table → Placed → Layout → Type 0
+IsLaidWith style sections table placed layout = (at : ℕ) → IsPlacedBy style sections at table placed →
+    IsLaidOut style sections at table layout
+
 -- the columns that a cell covers are there, and the tables nested in it may be laid out in its room
 pub record HasLayoutRoom (style : Style) (sections : List Section) (widths : List ℕ) (cell : TableCell) : Type 0 where
   pub some : (out-TableCell cell).place.left < (out-TableCell cell).place.right

@@ -1,5 +1,5 @@
 -- What is found of nested tables, many at once, on what was found of deeper ones. No public clause cites this file.
-use Rattle.std.specs.Prelude.{◌≡◌, ℕ, ◌+◌, ◌<◌, ◌≤◌, ◌⊎◌, List, [], length, get_or, take, Option, None, Some}
+use Rattle.std.specs.Prelude.{◌≡◌, ℕ, ◌+◌, ◌<◌, ◌≤◌, ◌⊎◌, List, [], length, Option, None, Some}
 use Rattle.std.specs.List.{All}
 use Rattle.tl_base.specs.declared.limits.TheConstants.{MAX_COLUMNS, MAX_PAGE_WIDTH}
 use Rattle.tl_base.specs.declared.style.Style.{Style}
@@ -9,6 +9,7 @@ use Rattle.tl_form.specs.Expected.{Document, Due, due_after, first_due, own_numb
 use Rattle.tl_form.specs.Valid.{IsProblemAt}
 use Rattle.tl_solve.specs.declared.outcome.Outcome.{Outcome}
 use Rattle.tl_solve.specs.Solver.{IsSolverOutcome}
+use Rattle.tl_nested.specs.declared.found.Found.{Found}
 use Rattle.tl_nested.specs.Searched.{IsSectionOf}
 use Rattle.tl_nested.specs.inner.Depths.{depth_of}
 
@@ -23,6 +24,10 @@ section_of now outcome = record {
   trace = outcome.trace;
   log = outcome.log;
 }
+
+-- what is kept of an outcome: its section, and its placement
+abbrev pub found_of : Due → Outcome → Found
+found_of now outcome = record { section = section_of now outcome; placed = outcome.best }
 
 -- a section that is that of an outcome, which `given` says was given, for its own problem on the sections that are told
 pub record IsFoundOn (given : ProblemModel → Outcome → Type 0) (document : Document) (budget : ℕ) (told : List Section)

@@ -6,8 +6,8 @@ use Rattle.tl_form.specs.inner.Naming.{LaysOut}
 use Rattle.tl_form.proofs.NamedSteps.{CellsLaid}
 use Rattle.tl_form.proofs.named.+layout.Given as goal
 
-abbrev pub invariant-layout_by-loop-cell : goal.invariant-layout_by-loop-cell
-invariant-layout_by-loop-cell l = CellsLaid l.style l.sections l.placed.widths (take l.cell-index l.cell-items) l.inner
+abbrev pub invariant-layout_on-loop-cell : goal.invariant-layout_on-loop-cell
+invariant-layout_on-loop-cell l = CellsLaid l.style l.sections l.placed.widths (take l.cell-index l.cell-items) l.inner
 
 abbrev pub invariant-with_cell-loop-block : goal.invariant-with_cell-loop-block
 invariant-with_cell-loop-block l =

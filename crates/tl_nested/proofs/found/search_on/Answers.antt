@@ -1,4 +1,4 @@
-use Rattle.std.proofs.Common.{subst, arith}
+use Rattle.std.proofs.Common.{ap, subst, arith}
 use Rattle.tl_problem.specs.Problem.{ProblemModel}
 use Rattle.tl_table.specs.Least.{IsLeastWidth}
 use Rattle.tl_table.proofs.LinkLemmas.{IsLeastWidth-unique}
@@ -7,6 +7,7 @@ use Rattle.tl_form.specs.Expected.{least_of}
 use Rattle.tl_form.specs.Nested.{IsProblemFor}
 use Rattle.tl_form.specs.Subjects.{due_of, meant}
 use Rattle.tl_form.proofs.SubjectLemmas.{it_is}
+use Rattle.tl_nested.specs.declared.found.Found.{Found}
 use Rattle.tl_nested.specs.Solved.{GivesOutcome}
 use Rattle.tl_nested.proofs.InOrder.{found_here}
 use Rattle.tl_nested.proofs.Made.{solved_by}
@@ -40,4 +41,5 @@ returns-clause-found g c =
     let both = solved_by g.F.Fn c.args.solve.now _ c.args.budget c.solve.result outcome c.requires.solves for_one.sound
     c.in_ok-outcome.was c.solve.ensures in
     found_here (GivesOutcome g.F.Fn c.args.solve.now c.args.budget) document c.args.budget c.args.told.now (due_of c.args.due) one
-    problem outcome c.found_of.result.section c.table_of-table.ensures for_one both.0 both.1 c.found_of.ensures.section
+    problem outcome c.in_ok-found_of.field-0.section c.table_of-table.ensures for_one both.0 both.1
+    (ap (λ (found : Found). found.section) c.in_ok-found_of.ensures)

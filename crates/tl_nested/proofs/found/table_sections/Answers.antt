@@ -1,8 +1,8 @@
-use Rattle.std.proofs.Common.{◌-◌, ◌≤◌, sym, subst, arith}
+use Rattle.std.proofs.Common.{◌≤◌, sym, subst, arith}
 use Rattle.std.specs.List.{All}
 use Rattle.std.proofs.lemmas.List.{get_or_read}
 use Rattle.std.proofs.lemmas.List.Elements.{All-nil, All-push}
-use Rattle.tl_form.specs.Expected.{least_of, own_number}
+use Rattle.tl_form.specs.Expected.{least_of}
 use Rattle.tl_form.specs.Subjects.{meant}
 use Rattle.tl_nested.specs.declared.found.Found.{Found}
 use Rattle.tl_nested.specs.Solved.{GivesOutcome}
@@ -28,7 +28,7 @@ loop-width-preserved g c =
     let page = c.args.subject.now.page in
     let found = c.in-Some-2.found in
     let one = of_some (λ (some : Found). P some.section) c.in_ok-found.field-0 found c.in-Some-2.is c.in_ok-found.ensures.found in
-    let narrow = of_some (λ (some : Found). some.placed ≤ c.in-Some.now) c.in_ok-found.field-0 found c.in-Some-2.is
+    let narrow = of_some (λ (some : Found). some.placed.width ≤ c.in-Some.now) c.in_ok-found.field-0 found c.in-Some-2.is
     c.in_ok-found.ensures.narrow in
     let now = subst (MayBeSearchedNext least page) c.in-Some.is c.loop-width.invariant.1 in
     let read = get_or_read c.args.subject.now.least.items _ _
@@ -36,5 +36,5 @@ loop-width-preserved g c =
     c.index-least.ensures 0 in (
       subst (All P) (sym c.in_ok-push.ensures.ok)
           (All-push P c.loop-width.sections found.section c.loop-width.invariant.0 one),
-      next_width least _ page c.in-Some.now found.placed c.narrower-width.result read narrow now.1 c.narrower-width.ensures,
+      next_width least _ page c.in-Some.now found.placed.width c.narrower-width.result read narrow now.1 c.narrower-width.ensures,
     )
