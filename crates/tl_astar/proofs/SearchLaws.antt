@@ -4,6 +4,7 @@ use Rattle.std.proofs.Common.{sym, ◌∙◌, subst}
 use Rattle.std.proofs.Common.{ap, arith, length-append}
 use Rattle.std.specs.BinaryHeap.{heap_items}
 use Rattle.std.specs.List.{All}
+use Rattle.std.specs.Option.{IfSome}
 use Rattle.std.proofs.lemmas.Bool.{cases_lt}
 use Rattle.std.proofs.lemmas.List.{get_or-map, length-map}
 use Rattle.std.proofs.lemmas.List.Elements.{All-cons, All-head, All-tail, All-map}
@@ -27,7 +28,7 @@ use Rattle.tl_astar.specs.inner.Entries.{HeapEntry, entry, bound_in, zone_in, Is
 use Rattle.tl_astar.specs.declared.opens.OpenZones.{OpenZones}
 use Rattle.tl_astar.specs.declared.search.Search.{Search}
 use Rattle.tl_astar.specs.Best.{HaveSameSteps}
-use Rattle.tl_astar.specs.inner.Frontier.{HasAreaBelow, IsUnderBounds, IsFrontier, KeepsBoundOrder, PartsRange}
+use Rattle.tl_astar.specs.inner.Frontier.{HasAreaBelow, IsNeededCut, IsUnderBounds, IsFrontier, KeepsBoundOrder, PartsRange}
 use Rattle.tl_astar.specs.inner.Searches.{HaveBounds, AreLeft, IsSearchOf, open_zones}
 use Rattle.tl_astar.proofs.FrontierLaws.{frontier-lower, frontier-permuted, frontier-shut, frontier-cut, bound-kept}
 use Rattle.tl_astar.proofs.OrderLaws.{HasBoundOrNone, order-lower, order-cut}
@@ -281,3 +282,23 @@ parts-cut problem trace z cut stands is top parts =
       lower = subst (λ y. (range_at (zone_of problem trace y) cut.span).first ≤ cut.class) same parts.1;
       upper = subst (λ y. cut.class < (range_at (zone_of problem trace y) cut.span).last) same parts.2;
     }
+
+-- a first cut of the zone that needs one is needed
+pub needed-at : (problem : ProblemModel) (trace : List CutAt) (height z : ℕ) (cut : CutAt) → cut.zone ≡ z →
+    IsFirstCut (zone_of problem trace z) cut → HasBoundBelow problem trace z height →
+    (HaveSameSteps problem → HasAreaBelow problem trace z height) → IsNeededCut problem trace height cut
+needed-at problem trace height z cut same first below by_area = record {
+  first = subst (λ y. IsFirstCut (zone_of problem trace y) cut) (sym same) first;
+  below = subst (λ y. HasBoundBelow problem trace y height) (sym same) below;
+  below_by_area = subst (λ y. HaveSameSteps problem → HasAreaBelow problem trace y height) (sym same) by_area;
+}
+
+-- so is one that may be none
+pub needed-some : (problem : ProblemModel) (trace : List CutAt) (height z : ℕ) (found : Option CutAt) →
+    IfSome found (λ cut. cut.zone ≡ z) → IfSome found (IsFirstCut (zone_of problem trace z)) →
+    IfSome found (λ cut. HasBoundBelow problem trace z height) →
+    IfSome found (λ cut. HaveSameSteps problem → HasAreaBelow problem trace z height) →
+    IfSome found (IsNeededCut problem trace height)
+needed-some problem trace height z None same first below by_area = tt
+needed-some problem trace height z (Some cut) same first below by_area =
+    needed-at problem trace height z cut same first below by_area

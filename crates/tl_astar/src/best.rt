@@ -32,11 +32,11 @@ impl Solver for Best {
 
     fn solve(&mut self, problem: &Problem, budget: u32) -> Result<Outcome, AllocError> {
         let mut search = Search::begin(self.alloc, problem)?;
-        while let Some(zone) = search.next(problem) {
+        while let Some(first) = search.next(problem) {
             if search.arena.cuts() == budget {
                 return search.finish(problem, budget);
             }
-            if let Some(cut) = search.choose(problem, zone)? {
+            if let Some(cut) = search.choose(problem, first)? {
                 search.cut(problem, cut)?;
             }
         }

@@ -5,7 +5,7 @@ ghost use Rattle.tl_problem.specs.Zones.{whole_zone};
 ghost use Rattle.tl_cert.specs.Traces.{IsCut, Stands, zone_of};
 ghost use Rattle.tl_solve.specs.Arenas.{HasBoundBelow};
 ghost use Rattle.tl_astar.specs.Best.{HaveSameSteps, IsShut};
-ghost use Rattle.tl_astar.specs.inner.Frontier.{HasAreaBelow, PartsRange};
+ghost use Rattle.tl_astar.specs.inner.Frontier.{HasAreaBelow, IsNeededCut, PartsRange};
 ghost use Rattle.tl_astar.specs.inner.Searches.{IsSearchOf};
 
 use crate::columns::{column_places, widths_between};
@@ -18,27 +18,31 @@ use tl_cert::CutAt;
 use tl_problem::{Problem, Range};
 
 impl Search {
-    /// The cut of an open zone. `None` where the zone needs no cut.
+    /// The cut of an open zone, which has this first cut. `None` where a placement that is found here is so low
+    /// that the zone needs no cut.
     pub(crate) fn choose(
         &mut self,
         problem: &Problem,
-        zone: u32,
+        first: CutAt,
     ) -> Result<Option<CutAt>, AllocError>
         requires search { IsSearchOf problem.now self.old }
-        requires stands { Stands self.old.arena.trace zone }
+        requires stands { Stands self.old.arena.trace first.zone }
+        requires needed { IsNeededCut problem.now self.old.arena.trace self.old.arena.best.height first }
         ensures opens { self.new.opens ≡ self.old.opens }
         ensures trace { self.new.arena.trace ≡ self.old.arena.trace }
         ensures search { IsSearchOf problem.now self.new }
         ensures lowered { self.new.arena.best.height ≤ self.old.arena.best.height }
         ensures shut { IfOk result (λ found. MatchOption found
-            (IsShut problem.now (zone_of problem.now self.old.arena.trace zone) self.new.arena.best.height)
-            (λ cut. cut.zone ≡ zone)) }
+            (IsShut problem.now (zone_of problem.now self.old.arena.trace first.zone) self.new.arena.best.height)
+            (λ cut. cut.zone ≡ first.zone)) }
         ensures cut { IfOk result (λ found. IfSome found (IsCut (whole_zone problem.now) self.old.arena.trace)) }
         ensures below { IfOk result (λ found. IfSome found (λ cut.
-            HasBoundBelow problem.now self.old.arena.trace zone self.new.arena.best.height)) }
+            HasBoundBelow problem.now self.old.arena.trace first.zone self.new.arena.best.height)) }
         ensures below_by_area { IfOk result (λ found. IfSome found (λ cut. HaveSameSteps problem.now →
-            HasAreaBelow problem.now self.old.arena.trace zone self.new.arena.best.height)) }
+            HasAreaBelow problem.now self.old.arena.trace first.zone self.new.arena.best.height)) }
     {
+        let zone = first.zone;
+        let before = self.arena.best().height;
         let ranges = self.arena.zones()[zone as usize].ranges();
         let sight = Sight::of_zone(
             self.alloc,
@@ -49,7 +53,7 @@ impl Search {
         )?;
         self.offer_fit(problem, &sight)?;
         self.offer_greedy(problem, &sight)?;
-        let Some(first) = self.first_cut(problem, zone) else {
+        let Some(first) = self.needed_still(problem, first, before) else {
             return Ok(None);
         };
         let height = self.arena.best().height;

@@ -14,7 +14,7 @@ ghost use Rattle.tl_solve.specs.Logs.{HasAreaFrom};
 ghost use Rattle.tl_solve.specs.Orders.{IsFirstCut};
 ghost use Rattle.tl_astar.specs.Best.{AreShut, HaveSameSteps, IsShut};
 ghost use Rattle.tl_astar.specs.inner.Entries.{IsAdded};
-ghost use Rattle.tl_astar.specs.inner.Frontier.{HasAreaBelow, IsUnderBounds};
+ghost use Rattle.tl_astar.specs.inner.Frontier.{HasAreaBelow, IsNeededCut, IsUnderBounds};
 ghost use Rattle.tl_astar.specs.inner.Searches.{AreLeft, IsSearchOf, open_zones};
 
 use crate::agreement::have_same_steps;
@@ -99,22 +99,23 @@ impl Search {
         Ok(())
     }
 
-    /// Takes out the zone of least bound among those that may be cut and need a cut. `None` where no zone
-    /// needs one.
-    pub(crate) fn next(&mut self, problem: &Problem) -> Option<u32>
+    /// Takes out the zone of least bound among those that may be cut and need a cut, and returns its first
+    /// cut. `None` where no zone needs one.
+    pub(crate) fn next(&mut self, problem: &Problem) -> Option<CutAt>
         requires search { IsSearchOf problem.now self.old }
         requires left { AreLeft problem.now self.old (open_zones self.old) }
         ensures arena { self.new.arena ≡ self.old.arena }
         ensures search { IsSearchOf problem.now self.new }
         ensures shut { IfNone result (AreShut problem.now self.new.arena.trace self.new.arena.best.height) }
-        ensures left { IfSome result (λ zone. AreLeft problem.now self.new (zone ∷ open_zones self.new)) }
-        ensures least { IfSome result (λ zone. (bound : ℕ) → IsBoundOf problem.now self.new.arena.trace zone bound →
+        ensures left { IfSome result (λ cut. AreLeft problem.now self.new (cut.zone ∷ open_zones self.new)) }
+        ensures least { IfSome result (λ cut. (bound : ℕ) → IsBoundOf problem.now self.new.arena.trace cut.zone bound →
             IsUnderBounds problem.now self.new.arena.trace bound (open_zones self.new)) }
+        ensures needed { IfSome result (IsNeededCut problem.now self.new.arena.trace self.new.arena.best.height) }
         ensures len { OnSome result (heap_len self.new.opens.heap < heap_len self.old.opens.heap) }
     {
         while let Some(zone) = self.opens.pop() {
-            if self.first_cut(problem, zone).is_some() {
-                return Some(zone);
+            if let Some(first) = self.first_cut(problem, zone) {
+                return Some(first);
             }
         }
         None
@@ -140,6 +141,32 @@ impl Search {
             return None;
         }
         Some(cut)
+    }
+
+    /// The first cut of a zone, where the zone needs it still: it did when the best height was `height`. `None`
+    /// where it no longer does.
+    pub(crate) fn needed_still(
+        &mut self,
+        problem: &Problem,
+        first: CutAt,
+        height: u32,
+    ) -> Option<CutAt>
+        requires search { IsSearchOf problem.now self.old }
+        requires there { IsZoneOf self.old.arena.trace first.zone }
+        requires needed { IsNeededCut problem.now self.old.arena.trace height first }
+        requires lowered { self.old.arena.best.height ≤ height }
+        ensures arena { self.new.arena ≡ self.old.arena }
+        ensures opens { self.new.opens ≡ self.old.opens }
+        ensures search { IsSearchOf problem.now self.new }
+        ensures shut { IfNone result (IsShut problem.now (zone_of problem.now self.old.arena.trace first.zone)
+            self.old.arena.best.height) }
+        ensures zone { IfSome result (λ cut. cut.zone ≡ first.zone) }
+        ensures needed { IfSome result (IsNeededCut problem.now self.old.arena.trace self.old.arena.best.height) }
+    {
+        if self.arena.best().height < height {
+            return self.first_cut(problem, first.zone);
+        }
+        Some(first)
     }
 
     /// Makes the cut of a zone that was taken out, and adds its parts to the zones that may be cut.

@@ -56,7 +56,10 @@ impl Spread {
         }
         for i in 0..self.side {
             let to_b = self.entry(i, a as usize).saturating_add(most);
-            self.limit_row(i, b as usize, to_b);
+            // Where `x_b - x_i` stays, so does each `x_j - x_i`, as they are the tightest limits already.
+            if to_b < self.entry(i, b as usize) {
+                self.limit_row(i, b as usize, to_b);
+            }
         }
     }
 

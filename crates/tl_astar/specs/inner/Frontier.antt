@@ -10,7 +10,8 @@ use Rattle.tl_cert.specs.Traces.{Stands, zone_of}
 use Rattle.tl_cert.specs.Worked.{IsBoundOf}
 use Rattle.tl_solve.specs.Logs.{Proves}
 use Rattle.tl_cert.specs.ZoneOrders.{AtEachCut}
-use Rattle.tl_solve.specs.Orders.{CutsBelowPlacements}
+use Rattle.tl_solve.specs.Arenas.{HasBoundBelow}
+use Rattle.tl_solve.specs.Orders.{CutsBelowPlacements, IsFirstCut}
 use Rattle.tl_astar.specs.Best.{CutsBelowByArea, HaveSameSteps, IsAreaOf, IsOfLeastBound, IsShut}
 
 -- the number is at most the bound of each of these zones that has one
@@ -28,6 +29,13 @@ pub record IsFrontier (problem : ProblemModel) (trace : List CutAt) (height : �
 -- the zone with this number has an area bound below the height
 abbrev pub HasAreaBelow : ProblemModel → List CutAt → ℕ → ℕ → Type 0
 HasAreaBelow problem trace z height = (area : ℕ) × IsAreaOf problem trace z area × (area < height)
+
+-- the first cut of a zone that needs one for a best placement of this height: its bound is below the height and, if each
+-- cell has the same steps by `low` and by `high`, its area bound too
+pub record IsNeededCut (problem : ProblemModel) (trace : List CutAt) (height : ℕ) (cut : CutAt) : Type 0 where
+  pub first : IsFirstCut (zone_of problem trace cut.zone) cut
+  pub below : HasBoundBelow problem trace cut.zone height
+  pub below_by_area : HaveSameSteps problem → HasAreaBelow problem trace cut.zone height
 
 -- each zone that stands proves the bound that the cut zone has
 abbrev pub IsCutProved : ProblemModel → List CutAt → CutAt → Type 0

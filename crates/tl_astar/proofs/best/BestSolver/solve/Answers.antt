@@ -16,7 +16,7 @@ use Rattle.tl_astar.proofs.best.BestSolver.solve.Goals as goal
 pub choose-requires-clause-stands : goal.choose-requires-clause-stands
 choose-requires-clause-stands c =
     let s = c.next.new.self in
-    All-head (Stands s.arena.trace) c.in-Some.zone (open_zones s) c.in-Some.ensures.left.standing
+    All-head (Stands s.arena.trace) c.in-Some.first.zone (open_zones s) c.in-Some.ensures.left.standing
 
 pub cut-requires-clause-left : goal.cut-requires-clause-left
 cut-requires-clause-left c =
@@ -24,9 +24,9 @@ cut-requires-clause-left c =
     let s = c.next.new.self in
     let t = c.choose.new.self in
     let told = c.in_ok-cut.ensures in
-    let top = MatchOption-at_some _ (λ (cut : CutAt). cut.zone ≡ c.in-Some.zone) c.in-Some-2.cut c.in-Some-2.is told.shut in
+    let top = MatchOption-at_some _ (λ (cut : CutAt). cut.zone ≡ c.in-Some.first.zone) c.in-Some-2.cut c.in-Some-2.is told.shut in
     subst (λ z. AreLeft p t (z ∷ open_zones t)) (sym top)
-    (left-kept p s t told.opens told.trace (λ zones. c.in-Some.zone ∷ zones) told.lowered c.in-Some.ensures.left)
+    (left-kept p s t told.opens told.trace (λ zones. c.in-Some.first.zone ∷ zones) told.lowered c.in-Some.ensures.left)
 
 pub cut-requires-clause-least : goal.cut-requires-clause-least
 cut-requires-clause-least c =
@@ -34,17 +34,17 @@ cut-requires-clause-least c =
     let s = c.next.new.self in
     let t = c.choose.new.self in
     let told = c.in_ok-cut.ensures in
-    let top = MatchOption-at_some _ (λ (cut : CutAt). cut.zone ≡ c.in-Some.zone) c.in-Some-2.cut c.in-Some-2.is told.shut in
+    let top = MatchOption-at_some _ (λ (cut : CutAt). cut.zone ≡ c.in-Some.first.zone) c.in-Some-2.cut c.in-Some-2.is told.shut in
     subst (λ z. (bound : ℕ) → IsBoundOf p t.arena.trace z bound → IsUnderBounds p t.arena.trace bound (open_zones t)) (sym top)
-    (least-kept p s t told.opens told.trace c.in-Some.zone c.in-Some.ensures.least)
+    (least-kept p s t told.opens told.trace c.in-Some.first.zone c.in-Some.ensures.least)
 
-pub loop-zone-preserved : goal.loop-zone-preserved
-loop-zone-preserved c =
+pub loop-first-preserved : goal.loop-first-preserved
+loop-first-preserved c =
     let p = c.args.problem.now in
     let s = c.next.new.self in
     let t = c.choose.new.self in
     let told = c.in_ok-cut.ensures in
-    let z = c.in-Some.zone in
+    let z = c.in-Some.first.zone in
     let shut = match-none c.in_ok-cut.field-0 _ (λ (cut : CutAt). cut.zone ≡ z) told.shut c.in_default-2.not-Some in
     let left = left-kept p s t told.opens told.trace (λ zones. z ∷ zones) told.lowered c.in-Some.ensures.left in
     let same = told.trace in
@@ -56,7 +56,7 @@ loop-zone-preserved c =
         arith,
         ap length same,
         ap length (ap (λ (a : Arena). a.trace) c.in-Some.ensures.arena),
-        c.loop-zone.invariant.within,
+        c.loop-first.invariant.within,
       );
       shown = λ none. absurd (c.if-cuts-budget.false
           (omega (
@@ -64,6 +64,6 @@ loop-zone-preserved c =
             none,
             c.cuts.ensures,
             ap length (ap (λ (a : Arena). a.trace) c.in-Some.ensures.arena),
-            c.loop-zone.invariant.within,
+            c.loop-first.invariant.within,
           )));
     }

@@ -1,22 +1,17 @@
-use Rattle.std.proofs.Common.{◌≡◌, ◌∷◌, false, true, map, Option, None, Some, sym, ◌∙◌, subst, ap, arith, length}
+use Rattle.std.proofs.Common.{◌∷◌, ℕ, map, sym, ◌∙◌, subst, ap, arith, length}
 use Rattle.std.specs.BinaryHeap.{heap_items, heap_len}
-use Rattle.std.specs.Option.{IfNone, is_some}
 use Rattle.std.proofs.lemmas.List.Elements.{All-head}
 use Rattle.tl_base.proofs.Options.{not-some}
 use Rattle.tl_cert.specs.Traces.{Stands}
+use Rattle.tl_cert.specs.Worked.{IsBoundOf}
 use Rattle.tl_solve.specs.declared.arena.Arena.{Arena}
 use Rattle.tl_astar.specs.declared.opens.OpenZones.{OpenZones}
 use Rattle.tl_astar.specs.inner.Entries.{zone_in}
-use Rattle.tl_astar.specs.inner.Frontier.{IsFrontier}
+use Rattle.tl_astar.specs.inner.Frontier.{IsFrontier, IsNeededCut, IsUnderBounds}
+use Rattle.tl_astar.specs.inner.Searches.{AreLeft, open_zones}
 use Rattle.tl_astar.proofs.FrontierLaws.{frontier-shut, frontier-end}
-use Rattle.tl_astar.proofs.SearchLaws.{taken-bounds, taken-frontier, taken-least, search-popped, left-kept, least-kept}
+use Rattle.tl_astar.proofs.SearchLaws.{taken-bounds, taken-frontier, taken-least, search-popped, left-kept, least-kept, needed-at}
 use Rattle.tl_astar.proofs.search.Search.next.Goals as goal
-
-none-holds : {A : Type 0} (o : Option A) (P : Type 0) → is_some o ≡ false → IfNone o P → P
-none-holds None P none holds = holds
-none-holds (Some x) P some holds = absurd (not some) where
-  not : true ≡ false → ⊥
-  not same = cc
 
 pub first_cut-requires-clause-search : goal.first_cut-requires-clause-search
 first_cut-requires-clause-search c =
@@ -37,27 +32,40 @@ first_cut-requires-clause-there c =
     s.arena.best.height c.loop-zone.invariant.left in
     (All-head (Stands s.arena.trace) c.in-Some.zone zones left.standing).there
 
-pub returns-then-is_some-clause-left : goal.returns-then-is_some-clause-left
-returns-then-is_some-clause-left c =
+pub returns-in-Some-first_cut-clause-left : goal.returns-in-Some-first_cut-clause-left
+returns-in-Some-first_cut-clause-left c =
     let p = c.args.problem.now in
     let s = c.loop-zone.self in
+    let t = c.first_cut.new.self in
     let same = c.first_cut.ensures.arena in
     let left = taken-frontier p s.arena.trace (heap_items s.opens.heap) c.in-Some.zone (heap_items c.pop.new.self.heap)
     c.in-Some.ensures.taken
     s.arena.best.height c.loop-zone.invariant.left in
-    left-kept p (record s { opens = c.pop.new.self }) c.first_cut.new.self c.first_cut.ensures.opens
-    (ap (λ (a : Arena). a.trace) same)
-    (λ zones. c.in-Some.zone ∷ zones) (omega (arith, ap (λ (a : Arena). a.best.height) same)) left
+    subst (λ z. AreLeft p t (z ∷ open_zones t)) (sym c.in-Some-first_cut.ensures.zone)
+    (left-kept p (record s { opens = c.pop.new.self }) t c.first_cut.ensures.opens (ap (λ (a : Arena). a.trace) same)
+    (λ zones. c.in-Some.zone ∷ zones) (omega (arith, ap (λ (a : Arena). a.best.height) same)) left)
 
-pub returns-then-is_some-clause-least : goal.returns-then-is_some-clause-least
-returns-then-is_some-clause-least c =
+pub returns-in-Some-first_cut-clause-least : goal.returns-in-Some-first_cut-clause-least
+returns-in-Some-first_cut-clause-least c =
     let p = c.args.problem.now in
     let s = c.loop-zone.self in
-    least-kept p (record s { opens = c.pop.new.self }) c.first_cut.new.self c.first_cut.ensures.opens
+    let t = c.first_cut.new.self in
+    subst (λ z. (bound : ℕ) → IsBoundOf p t.arena.trace z bound → IsUnderBounds p t.arena.trace bound (open_zones t))
+    (sym c.in-Some-first_cut.ensures.zone)
+    (least-kept p (record s { opens = c.pop.new.self }) t c.first_cut.ensures.opens
     (ap (λ (a : Arena). a.trace) c.first_cut.ensures.arena)
     c.in-Some.zone (taken-least p s.arena.trace (heap_items s.opens.heap) c.in-Some.zone (heap_items c.pop.new.self.heap)
     c.in-Some.ensures.taken
-    c.loop-zone.invariant.search.bounds)
+    c.loop-zone.invariant.search.bounds))
+
+pub returns-in-Some-first_cut-clause-needed : goal.returns-in-Some-first_cut-clause-needed
+returns-in-Some-first_cut-clause-needed c =
+    let p = c.args.problem.now in
+    let arena = c.loop-zone.self.arena in
+    let found = c.in-Some-first_cut.ensures in
+    subst (λ (a : Arena). IsNeededCut p a.trace a.best.height c.in-Some-first_cut.first) (sym c.first_cut.ensures.arena)
+    (needed-at p arena.trace arena.best.height c.in-Some.zone c.in-Some-first_cut.first found.zone found.first found.below
+    found.below_by_area)
 
 pub loop-zone-preserved : goal.loop-zone-preserved
 loop-zone-preserved c =
@@ -68,7 +76,7 @@ loop-zone-preserved c =
     let left = taken-frontier p s.arena.trace (heap_items s.opens.heap) c.in-Some.zone (heap_items c.pop.new.self.heap)
     c.in-Some.ensures.taken
     s.arena.best.height c.loop-zone.invariant.left in
-    let shut = none-holds c.first_cut.result _ (sym c.is_some.ensures ∙ c.if-is_some.false) c.first_cut.ensures.shut in
+    let shut = not-some c.first_cut.result _ c.first_cut.ensures.shut c.in_default-first_cut.not-Some in
     record {
       arena = same ∙ c.loop-zone.invariant.arena;
       search = c.first_cut.ensures.search;
