@@ -39,16 +39,21 @@ impl Search {
         ensures below_by_area { IfOk result (λ found. IfSome found (λ cut. HaveSameSteps problem.now →
             HasAreaBelow problem.now self.old.arena.trace zone self.new.arena.best.height)) }
     {
-        let cells = problem.cells();
         let ranges = self.arena.zones()[zone as usize].ranges();
-        let sight = Sight::of_zone(self.alloc, &self.shape, cells, ranges, self.same_steps)?;
+        let sight = Sight::of_zone(
+            self.alloc,
+            &self.shape,
+            &self.whole,
+            ranges,
+            self.same_steps,
+        )?;
         self.offer_fit(problem, &sight)?;
         self.offer_greedy(problem, &sight)?;
         let Some(first) = self.first_cut(problem, zone) else {
             return Ok(None);
         };
         let height = self.arena.best().height;
-        let place = best_place(self.alloc, &self.shape, cells, &sight, height)?;
+        let place = best_place(self.alloc, &self.shape, &sight, height)?;
         let ranges = self.arena.zones()[zone as usize].ranges();
         Ok(Some(cut_at(ranges, place, first)))
     }

@@ -1,8 +1,9 @@
 //! Widths for a low placement: those that the bound of a zone wants, made narrower where that costs least.
 
 use crate::columns::{column_places, is_on_page, longest_path};
+use crate::rises::raise_heights;
 use crate::shape::{Shape, class_of, number_at, raise};
-use crate::sight::{Sight, raise_heights, rooms_for, row_places};
+use crate::sight::{Sight, rooms_for, row_places};
 use std::alloc::{AllocError, Global};
 use tl_problem::Cell;
 
@@ -58,8 +59,8 @@ pub(crate) fn greedy_places(
         let Some(step) = cheapest(&path, &offers) else {
             return Ok(places);
         };
-        raise_heights(shape, cells, step.span, step.room, &mut heights);
-        rooms = rooms_for(alloc, shape, cells, &sight.least, &heights)?;
+        raise_heights(sight.rises.of_span(step.span), step.room, &mut heights);
+        rooms = rooms_for(alloc, shape, &sight.rises, &sight.least, &heights)?;
         places = column_places(alloc, shape, &rooms)?;
     }
     Ok(places)

@@ -12,10 +12,12 @@ mod laws;
 mod lower;
 mod opens;
 mod parts;
+mod rises;
 mod search;
 mod shape;
 mod sight;
 mod spread;
+mod whole;
 
 pub use best::Best;
 pub use laws::same_steps_agree;

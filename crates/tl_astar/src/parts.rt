@@ -1,10 +1,12 @@
 //! Where a cut of a zone raises the bounds of its parts most.
 
 use crate::columns::{column_places, is_on_page};
+use crate::rises::raise_heights;
 use crate::shape::{Shape, class_of, number_at};
-use crate::sight::{Sight, raise_heights, signed, total_height, unsigned};
+use crate::sight::{Sight, total_height};
+use crate::spread::{signed, unsigned};
 use std::alloc::{AllocError, Global};
-use tl_problem::{Cell, Span};
+use tl_problem::Span;
 
 /// A cut of a span after one of its classes, by the bounds of its parts.
 #[derive(Clone, Copy)]
@@ -23,11 +25,11 @@ pub(crate) struct Place {
 pub(crate) fn best_place(
     alloc: Global,
     shape: &Shape,
-    cells: &[Cell],
     sight: &Sight,
     height: u32,
 ) -> Result<Option<Place>, AllocError> {
     let rooms = balanced_rooms(alloc, shape, sight)?;
+    let mut heights = Vec::new(alloc);
     let mut best: Option<Place> = None;
     for span in 0..shape.spans.len() {
         let classes = shape.classes_of(span);
@@ -35,7 +37,7 @@ pub(crate) fn best_place(
         let last = class_of(classes, number_at(&sight.most, span));
         if first < last {
             let class = class_of(classes, number_at(&rooms, span)).clamp(first, last - 1);
-            let place = place_at(alloc, shape, cells, sight, span, class, height)?;
+            let place = place_at(alloc, shape, sight, (span, class), height, &mut heights)?;
             if is_better(&place, &best) {
                 best = Some(place);
             }
@@ -54,16 +56,16 @@ fn is_better(place: &Place, best: &Option<Place>) -> bool {
     }
 }
 
-/// The cut of the span after the class, with the bounds of its parts.
+/// The cut of the span after the class, with the bounds of its parts. `heights` is room.
 fn place_at(
     alloc: Global,
     shape: &Shape,
-    cells: &[Cell],
     sight: &Sight,
-    span: usize,
-    class: usize,
+    cut: (usize, usize),
     height: u32,
+    heights: &mut Vec<u32>,
 ) -> Result<Place, AllocError> {
+    let (span, class) = cut;
     let gap = signed(shape.style.gap());
     let Some(&Span { left, right }) = shape.spans.get(span) else {
         return Ok(Place {
@@ -76,8 +78,8 @@ fn place_at(
     let begins = signed(number_at(shape.classes_of(span), class.saturating_add(1)));
     let narrow = begins.saturating_sub(1).saturating_add(gap);
     let wide = begins.saturating_add(gap).saturating_neg();
-    let lower = part_bound(alloc, shape, cells, sight, (left, right, narrow), height)?;
-    let upper = part_bound(alloc, shape, cells, sight, (right, left, wide), height)?;
+    let lower = part_bound(alloc, shape, sight, (left, right, narrow), height, heights)?;
+    let upper = part_bound(alloc, shape, sight, (right, left, wide), height, heights)?;
     Ok(Place {
         span,
         class,
@@ -87,42 +89,50 @@ fn place_at(
 }
 
 /// The bound of the part of the zone under the limit `x_b - x_a <= most`, counted up to `height`, which a
-/// part without widths counts.
+/// part without widths counts. `heights` is room.
 fn part_bound(
     alloc: Global,
     shape: &Shape,
-    cells: &[Cell],
     sight: &Sight,
     limit: (u32, u32, i32),
     height: u32,
+    heights: &mut Vec<u32>,
 ) -> Result<u32, AllocError> {
     let (a, b, most) = limit;
     if sight.spread.at(b, a).saturating_add(most) < 0 {
         return Ok(height);
     }
     let gap = signed(shape.style.gap());
-    let mut heights = Vec::from_slice(alloc, &sight.heights)?;
+    heights.clear();
+    heights.extend_from_slice(&sight.heights)?;
     for (number, span) in shape.spans.iter().enumerate() {
-        let apart = sight.spread.limited(a, b, most, span.left, span.right);
-        let room = unsigned(apart.saturating_sub(gap));
-        if room < number_at(&sight.last, number) {
-            raise_heights(shape, cells, number, room, &mut heights);
+        let rises = sight.rises.of_span(number);
+        if !rises.is_empty() {
+            let apart = sight.spread.limited(a, b, most, span.left, span.right);
+            raise_heights(rises, unsigned(apart.saturating_sub(gap)), heights);
         }
     }
-    let bound = total_height(alloc, shape, &heights)?;
+    let bound = total_height(alloc, shape, heights)?;
     Ok(bound.min(height))
 }
 
 /// Rooms as far from the least to those that are wanted as the page can hold for all spans, in 64ths.
 fn balanced_rooms(alloc: Global, shape: &Shape, sight: &Sight) -> Result<Vec<u32>, AllocError> {
-    for spared in 0..64u32 {
-        let rooms = rooms_between(alloc, shape, sight, 64 - spared)?;
-        let places = column_places(alloc, shape, &rooms)?;
-        if is_on_page(shape, &places) {
-            return Ok(rooms);
+    // The page holds the least rooms, and no rooms that are greater than some that it does not hold.
+    let (mut held, mut past) = (0u32, 65u32);
+    for _ in 0..7 {
+        let part = held.saturating_add(past) / 2;
+        if held < part && part < past {
+            let rooms = rooms_between(alloc, shape, sight, part)?;
+            let places = column_places(alloc, shape, &rooms)?;
+            if is_on_page(shape, &places) {
+                held = part;
+            } else {
+                past = part;
+            }
         }
     }
-    Vec::from_slice(alloc, &sight.least)
+    rooms_between(alloc, shape, sight, held)
 }
 
 /// The least rooms with this many 64ths of what lacks to those that are wanted.

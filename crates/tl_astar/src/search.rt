@@ -20,6 +20,7 @@ ghost use Rattle.tl_astar.specs.inner.Searches.{AreLeft, IsSearchOf, open_zones}
 use crate::agreement::have_same_steps;
 use crate::opens::OpenZones;
 use crate::shape::Shape;
+use crate::whole::Whole;
 use std::alloc::{AllocError, Global};
 use tl_base::MAX_BUDGET;
 use tl_cert::CutAt;
@@ -35,6 +36,7 @@ pub(crate) struct Search {
     /// Whether each cell has the same steps by `low` and by `high`: only then an area bound closes a zone.
     pub(crate) same_steps: bool,
     pub(crate) shape: Shape,
+    pub(crate) whole: Whole,
     /// At how many cuts a low placement is looked for again.
     pub(crate) next_greedy: u32,
 }
@@ -48,6 +50,7 @@ impl Drop for Search {
             opens: _opens,
             same_steps: _same_steps,
             shape: _shape,
+            whole: _whole,
             next_greedy: _next_greedy,
         } = self;
     }
@@ -64,6 +67,7 @@ impl Search {
         let arena = Arena::open(alloc, problem)?;
         let work = Work::new(problem)?;
         let shape = Shape::new(alloc, problem)?;
+        let whole = Whole::new(alloc, &shape, problem.cells())?;
         let opens = OpenZones::new(alloc);
         let mut search = Search {
             alloc,
@@ -72,6 +76,7 @@ impl Search {
             opens,
             same_steps: have_same_steps(problem),
             shape,
+            whole,
             next_greedy: 0,
         };
         search.add(0)?;
@@ -171,6 +176,7 @@ impl Search {
             opens: _opens,
             same_steps: _,
             shape: _shape,
+            whole: _whole,
             next_greedy: _,
         } = self;
         arena

@@ -62,6 +62,11 @@ impl Shape {
         })
     }
 
+    /// Whether some strip has several rows. Otherwise strip `k` is row `k`.
+    pub(crate) fn has_tall_strips(&self) -> bool {
+        self.strips.len() > self.rows as usize
+    }
+
     /// The first widths of the classes of a span, and the numbers of its cells.
     pub(crate) fn classes_of(&self, span: usize) -> &[u32] {
         match self.classes.get(span) {
@@ -94,7 +99,7 @@ pub(crate) fn raise(numbers: &mut [u32], place: usize, least: u32) {
 
 /// The class of a room: the last one that begins at it or before.
 pub(crate) fn class_of(classes: &[u32], room: u32) -> usize {
-    let begun = classes.iter().filter(|&&first| first <= room).count();
+    let begun = classes.partition_point(|&first| first <= room);
     begun.saturating_sub(1)
 }
 

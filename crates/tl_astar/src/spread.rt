@@ -1,6 +1,8 @@
 //! How far the columns of a zone may lie apart.
 
+use crate::shape::{Shape, number_at};
 use std::alloc::{AllocError, Global};
+use tl_problem::Range;
 
 /// More than any page is wide.
 const FAR: i32 = 1_000_000;
@@ -23,6 +25,14 @@ impl Spread {
             }
         }
         Ok(Spread { side, most })
+    }
+
+    /// The same limits again.
+    fn copy(&self, alloc: Global) -> Result<Spread, AllocError> {
+        Ok(Spread {
+            side: self.side,
+            most: Vec::from_slice(alloc, &self.most)?,
+        })
     }
 
     /// The greatest `x_b - x_a`.
@@ -68,4 +78,98 @@ impl Spread {
         let place = a.saturating_mul(self.side).saturating_add(b);
         self.most.get(place).copied().unwrap_or(0)
     }
+}
+
+/// How far the columns lie apart on the page, where each span has at least its least width.
+pub(crate) fn page_spread(alloc: Global, shape: &Shape) -> Result<Spread, AllocError> {
+    let gap = signed(shape.style.gap());
+    let page = shape
+        .width
+        .saturating_sub(2 * shape.style.edge())
+        .saturating_add(shape.style.gap());
+    let mut spread = Spread::new(alloc, (shape.cols as usize).saturating_add(1))?;
+    spread.limit(0, shape.cols, signed(page));
+    for column in 0..shape.cols {
+        spread.limit(column.saturating_add(1), column, gap.saturating_neg());
+    }
+    for span in 0..shape.spans.len() {
+        limit_first(shape, span, 0, &mut spread);
+    }
+    Ok(spread)
+}
+
+/// How far the columns lie apart on the page and in the ranges, by how far they do on the page alone.
+pub(crate) fn zone_spread(
+    alloc: Global,
+    shape: &Shape,
+    page: &Spread,
+    ranges: &[Range],
+) -> Result<Spread, AllocError> {
+    let mut spread = page.copy(alloc)?;
+    for (span, range) in ranges.iter().enumerate() {
+        if range.first > 0 {
+            limit_first(shape, span, range.first as usize, &mut spread);
+        }
+        limit_last(shape, span, range.last as usize, &mut spread);
+    }
+    Ok(spread)
+}
+
+/// Gives a span no room below its class `first`.
+fn limit_first(shape: &Shape, number: usize, first: usize, spread: &mut Spread) {
+    if let Some(span) = shape.spans.get(number) {
+        let least = signed(number_at(shape.classes_of(number), first));
+        let apart = least.saturating_add(signed(shape.style.gap()));
+        spread.limit(span.right, span.left, apart.saturating_neg());
+    }
+}
+
+/// Gives a span no room past its class `last`.
+fn limit_last(shape: &Shape, number: usize, last: usize, spread: &mut Spread) {
+    let next = shape.classes_of(number).get(last.saturating_add(1));
+    if let (Some(span), Some(&next)) = (shape.spans.get(number), next) {
+        let most = signed(next).saturating_sub(1);
+        let gap = signed(shape.style.gap());
+        spread.limit(span.left, span.right, most.saturating_add(gap));
+    }
+}
+
+/// The least room of each span.
+pub(crate) fn least_rooms(
+    alloc: Global,
+    shape: &Shape,
+    spread: &Spread,
+) -> Result<Vec<u32>, AllocError> {
+    let gap = signed(shape.style.gap());
+    let mut rooms = Vec::new(alloc);
+    for span in &shape.spans {
+        let back = spread.at(span.right, span.left).saturating_neg();
+        rooms.push(unsigned(back.saturating_sub(gap)))?;
+    }
+    Ok(rooms)
+}
+
+/// The greatest room of each span.
+pub(crate) fn greatest_rooms(
+    alloc: Global,
+    shape: &Shape,
+    spread: &Spread,
+) -> Result<Vec<u32>, AllocError> {
+    let gap = signed(shape.style.gap());
+    let mut rooms = Vec::new(alloc);
+    for span in &shape.spans {
+        let on = spread.at(span.left, span.right);
+        rooms.push(unsigned(on.saturating_sub(gap)))?;
+    }
+    Ok(rooms)
+}
+
+/// A number as a signed one.
+pub(crate) fn signed(number: u32) -> i32 {
+    i32::try_from(number).unwrap_or(i32::MAX)
+}
+
+/// A number as an unsigned one, 0 where it is negative.
+pub(crate) fn unsigned(number: i32) -> u32 {
+    u32::try_from(number).unwrap_or(0)
 }

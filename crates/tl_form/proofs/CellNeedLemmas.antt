@@ -2,14 +2,14 @@
 use Rattle.std.proofs.Common.{◌≡◌, ℕ, zero, suc, ◌+◌, ◌<◌, ◌≤◌, max, List, [], ◌∷◌, ◌++◌, length, take, get_or, Option, Some}
 use Rattle.std.proofs.Common.{None}
 use Rattle.std.proofs.Common.{refl, sym, ap, subst, ◌∙◌, arith, sum}
-use Rattle.std.specs.List.{AllZip}
+use Rattle.std.specs.List.{All, AllZip, AllByRecursion}
 use Rattle.std.specs.Option.{IsSomeAnd}
 use Rattle.std.specs.declared.alloc.Global.{Global}
 use Rattle.std.specs.declared.boxed.Box.{Box}
-use Rattle.std.proofs.lemmas.List.{take_all, take_more}
+use Rattle.std.proofs.lemmas.List.{take_more}
 use Rattle.tl_base.specs.declared.limits.TheConstants.{MAX_HEIGHT}
 use Rattle.tl_base.specs.declared.steps.Config.{Config}
-use Rattle.tl_base.specs.Steps.{AreSteps, first_height, first_width, height_at, stacked_height}
+use Rattle.tl_base.specs.Steps.{AreSteps, both_heights, first_height, first_width, height_at, stacked_height}
 use Rattle.tl_base.proofs.Sums.{sum-cons, sum-one}
 use Rattle.tl_base.proofs.Zips.{AllZip-push}
 use Rattle.tl_problem.proofs.Heights.{height-from_first}
@@ -21,10 +21,10 @@ use Rattle.tl_table.specs.declared.cell.Content.{Content, out-Content}
 use Rattle.tl_table.specs.declared.cell.Content.TheOpen as open_content
 use Rattle.tl_table.specs.declared.cell.Table.{Table, out-Table}
 use Rattle.tl_form.specs.declared.heights.InnerSteps.{InnerSteps}
-use Rattle.tl_table.specs.Tables.{OpenCell, OpenContent}
+use Rattle.tl_table.specs.Tables.{OpenCell, OpenContent, tables_of}
 use Rattle.tl_form.specs.Problems.{AreStepsOf, BlockNeeds, CellNeeds, InnerNeeds, steps_for}
-use Rattle.tl_form.specs.inner.CellSteps.{From, BlocksNeed, IsLowCell, IsStart}
-use Rattle.tl_form.proofs.NeedSteps.{AreStepsOf-same, AreStepsOf-stacked, BothNeed, height-first, first-least}
+use Rattle.tl_form.specs.inner.CellSteps.{From, BlocksNeed, IsLowCell, IsPlainBlock, IsStart}
+use Rattle.tl_form.proofs.NeedSteps.{AreStepsOf-same, AreStepsOf-stacked, BothNeed, height-falls, height-first, first-least}
 use Rattle.tl_form.proofs.ParagraphSteps.{lines-from_fit}
 
 -- ---- what is needed is one height
@@ -204,50 +204,10 @@ module _ (needs : Table → ℕ → ℕ → Type 0) where
       (λ w h within need. blocks-cell cell w h (let some = begins.has w need.0 in some.1.floor) need.1)
       (λ w h within need. (begins.from w h need, cell-blocks cell w h need)) of
 
--- ---- the blocks so far are low
-
-pub record LowSoFar (needs : Table → ℕ → ℕ → Type 0) (width : ℕ) (blocks : List Content) (height : ℕ) : Type 0 where
-  pub needed : BlocksNeed needs blocks width height
-  pub low : height ≤ MAX_HEIGHT
-
 -- the first blocks and one more
 pub taken : (blocks : List Content) (k : ℕ) (block : Content) → k < length blocks → block ≡ get_or blocks k block →
     take (k + 1) blocks ≡ take k blocks ++ block ∷ []
 taken blocks k block inside is = take_more blocks k block inside ∙ ap (λ last. take k blocks ++ last ∷ []) (sym is)
-
-module _ (needs : Table → ℕ → ℕ → Type 0) (functional : IsFunctional needs) (cell : OpenCell) (width : ℕ) where
-  pub low-more : (k height more : ℕ) (block : Content) → LowSoFar needs width (take k cell.blocks) height →
-      k < length cell.blocks →
-      block ≡ get_or cell.blocks k block → BlockNeeds needs (out-Content block) width more → height + more ≤ MAX_HEIGHT →
-      LowSoFar needs width (take (k + 1) cell.blocks) (height + more)
-  low-more k height more block so_far inside is here low = record {
-    needed = subst (λ (blocks : List Content). BlocksNeed needs blocks width (height + more))
-        (sym (taken cell.blocks k block inside is))
-        (one-more needs (take k cell.blocks) block width height more so_far.needed here);
-    low = low;
-  }
-
-  -- where the first blocks are too high the cell is
-  pub high-so-far : (k height more h : ℕ) (block : Content) → BlocksNeed needs (take k cell.blocks) width height →
-      k < length cell.blocks →
-      block ≡ get_or cell.blocks k block → BlockNeeds needs (out-Content block) width more → MAX_HEIGHT < height + more →
-      CellNeeds needs cell width h → h ≤ MAX_HEIGHT → ⊥
-  high-so-far k height more h block so_far inside is here high need low =
-      let first = first-blocks needs (k + 1) cell.blocks width h (cell-blocks needs cell width h need) in
-      let sum = subst (λ (blocks : List Content). BlocksNeed needs blocks width (height + more))
-      (sym (taken cell.blocks k block inside is))
-      (one-more needs (take k cell.blocks) block width height more so_far here) in
-      let same = blocks-functional needs functional (take (k + 1) cell.blocks) width first.0 (height + more) first.1 sum in
-      omega (arith, same, first.2, high, low)
-
-  pub low-all : (k height : ℕ) → LowSoFar needs width (take k cell.blocks) height → length cell.blocks ≤ k → cell.least ≤ width →
-      (h : ℕ) × CellNeeds needs cell width h × (h ≤ MAX_HEIGHT)
-  low-all k height so_far whole floor = (
-    height,
-    blocks-cell needs cell width height floor
-        (subst (λ (blocks : List Content). BlocksNeed needs blocks width height) (take_all k cell.blocks whole) so_far.needed),
-    so_far.low,
-  )
 
 -- ---- where steps begin
 
@@ -283,12 +243,68 @@ low-together needs functional cell page start k block before here low begins ins
     let same_other = block-functional needs functional (out-Content block) start (first_height here) less.1 other.1 less.3 in
     omega (arith, same_one, same_other, less.4, first.2, small)
 
+-- below what needs no line nothing is added
+both-none : (o : Option ℕ) → both_heights o None ≡ None
+both-none None = refl
+both-none (Some m) = refl
+
+pub stacked-below : (above below : List Config) → AreSteps above → AreSteps below → first_height above ≡ 0 →
+    first_width above ≤ first_width below → (w : ℕ) → height_at below w ≡ stacked_height above below w
+stacked-below above below is_above is_below flat narrow w = by_height (height_at below w) refl
+  where
+    by_height : (o : Option ℕ) → height_at below w ≡ o → height_at below w ≡ stacked_height above below w
+    by_height None at = at ∙ sym (both-none (height_at above w)) ∙ ap (both_heights (height_at above w)) (sym at)
+    by_height (Some h) at =
+        let wide = first-least below is_below w h at in
+        let some = height-from_first above is_above.has_step w (omega (arith, wide, narrow)) in
+        let fall = height-falls above is_above (first_width above) w (first_height above) some.0 (omega (arith, wide, narrow))
+        (height-first above is_above) some.1 in
+        let none : some.0 ≡ 0 = omega (arith, fall, flat) in
+        let same : h ≡ 0 + h = omega arith in
+        at ∙ ap Some same ∙ sym (ap (λ o. both_heights o (Some h)) (some.1 ∙ ap Some none)) ∙ ap (both_heights (height_at above w)) (sym at)
+
 -- steps begin at their first width
 pub steps-begin : (steps : List Config) → AreSteps steps → IsStart (λ w h. height_at steps w ≡ Some h) (first_width steps)
 steps-begin steps are = record {
   from = λ w h is. first-least steps are w h is;
   has = λ w wide. height-from_first steps are.has_step w wide;
 }
+
+-- ---- where no table is nested
+
+module _ (needs others : Table → ℕ → ℕ → Type 0) where
+  plain-block : (block : OpenContent) (w h : ℕ) → tables_of block ≡ [] → BlockNeeds needs block w h → BlockNeeds others block w h
+  plain-block (open_content.Para paragraph) w h none need = need
+  plain-block (open_content.Table box) w h none need = absurd cc
+
+  plain-blocks : (blocks : List Content) (w : ℕ) (heights : List ℕ) → AllByRecursion IsPlainBlock blocks →
+      AllZip (λ block height. BlockNeeds needs (out-Content block) w height) blocks heights →
+      AllZip (λ block height. BlockNeeds others (out-Content block) w height) blocks heights
+  plain-blocks [] w [] plain need = tt
+  plain-blocks [] w (h ∷ heights) plain need = absurd need
+  plain-blocks (block ∷ blocks) w [] plain need = absurd need
+  plain-blocks (block ∷ blocks) w (h ∷ heights) plain need = (
+    plain-block (out-Content block) w h plain.0 need.0,
+    plain-blocks blocks w heights plain.1 need.1,
+  )
+
+  -- the cell needs the same, whatever nested tables need
+  pub plain-cell : (cell : OpenCell) (w h : ℕ) → AllByRecursion IsPlainBlock cell.blocks → CellNeeds needs cell w h →
+      CellNeeds others cell w h
+  plain-cell cell w h plain need = record {
+    floor = need.floor;
+    heights = need.heights;
+    blocks = plain-blocks cell.blocks w need.heights plain need.blocks;
+    all = need.all;
+  }
+
+pub plain-steps : (needs others : Table → ℕ → ℕ → Type 0) (page : ℕ) (cell : OpenCell) (steps : List Config) →
+    AllByRecursion IsPlainBlock cell.blocks → AreStepsOf (CellNeeds needs cell) page steps →
+    AreStepsOf (CellNeeds others cell) page steps
+plain-steps needs others page cell steps plain of =
+    AreStepsOf-same (CellNeeds needs cell) (CellNeeds others cell) page steps
+    (λ w h within need. plain-cell needs others cell w h plain need)
+    (λ w h within need. plain-cell others needs cell w h plain need) of
 
 -- ---- a block by its kind
 
@@ -362,6 +378,15 @@ module _ (bound : InnerSteps → List Config) (inner : List InnerSteps) (block :
       steps-from_needs bound inner nested steps found w h
       (subst (λ (any : Table). InnerNeeds bound inner any w h) (sym same)
       (subst (λ (any : OpenContent). BlockNeeds (InnerNeeds bound inner) any w h) is need))
+
+-- steps that begin at a width are their own from there on
+pub own-between : (from page : ℕ) (steps : List Config) → AreSteps steps → All (λ step. step.width ≤ page) steps →
+    first_width steps ≡ from → AreStepsOf (From from (λ w h. height_at steps w ≡ Some h)) page steps
+own-between from page steps are within begins = record {
+  decreasing = are;
+  within = within;
+  each = λ w h narrow. (λ is. (omega (arith, first-least steps are w h is, begins), is), λ both. both.1);
+}
 
 -- the steps between two widths of a block's steps are those of the block
 pub block-between : (needs : Table → ℕ → ℕ → Type 0) (block : OpenContent) (from page : ℕ) (steps cut : List Config) →

@@ -1,8 +1,6 @@
 -- The minimal configurations of a paragraph are the steps of its least numbers of lines.
-use Rattle.std.proofs.Common.{◌≡◌, ℕ, zero, suc, ◌<◌, ◌≤◌, ◌⊎◌, inl, inr, List, [], ◌∷◌, length, get_or, Option, None, Some, refl}
-use Rattle.std.proofs.Common.{sym, ap, subst, arith}
-use Rattle.std.specs.Option.{IsNone, IsSome}
-use Rattle.std.proofs.lemmas.List.Elements.{All-from_recursion}
+use Rattle.std.proofs.Common.{◌≡◌, ℕ, zero, suc, ◌≤◌, ◌⊎◌, inl, inr, List, [], ◌∷◌, length, refl}
+use Rattle.std.proofs.Common.{sym, subst, arith}
 use Rattle.std.proofs.lemmas.Bool.{cases_lt}
 use Rattle.tl_base.specs.declared.steps.Config.{Config}
 use Rattle.tl_base.specs.Steps.{AreSteps}
@@ -103,14 +101,3 @@ holds-wider atoms from page h wider least =
     let lines = lines-from_fit page atoms (AllFit-wider from page atoms wider (fit-from_lines from atoms h least)) in
     let cut = lines.1.attained in
     (cut.0, cut.1, cut.2)
-
--- where a paragraph has lines no unit is too wide
-pub some-lines : (atoms : List Atom) (w h : ℕ) (o : Option ℕ) →
-    (IsNone o → (k : ℕ) × (atom : Atom) × (k < length atoms) × (get_or atoms k atom ≡ atom) × (w < unit_width atom)) →
-    LeastLines w atoms h → IsSome o
-some-lines atoms w h None wide least =
-    let at = wide refl in
-    let fit = All-from_recursion (λ atom. unit_width atom ≤ w) atoms (fit-from_lines w atoms h least) in
-    let narrow = fit at.0 at.1 at.2 in
-    absurd (omega (arith, narrow, at.4, ap unit_width at.3))
-some-lines atoms w h (Some n) wide least = refl

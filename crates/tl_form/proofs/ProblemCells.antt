@@ -23,7 +23,7 @@ use Rattle.tl_form.specs.declared.heights.Bound.TheVariants.{Low, High}
 use Rattle.tl_form.specs.declared.heights.InnerSteps.{InnerSteps}
 use Rattle.tl_table.specs.Tables.{OpenCell, inner_tables, tables_in, tables_of}
 use Rattle.tl_form.specs.Problems.{AreStepsOf, CellNeeds, InnerNeeds, IsCellBy, IsProblemOf, HasSoundProblem, steps_for}
-use Rattle.tl_form.specs.inner.CellSteps.{AreLowCells, HaveSteps, IsLowByBoth, IsLowCell, IsStart, NeedsBy}
+use Rattle.tl_form.specs.inner.CellSteps.{AreLowCells, HaveSteps, IsLowCell, NeedsBy}
 use Rattle.tl_form.proofs.CellNeedLemmas.{IsFunctional, cell-functional, inner-functional}
 use Rattle.tl_form.proofs.NeedSteps.{first-least, height-first}
 use Rattle.tl_form.proofs.ProblemTruth.{cell-inside, same-problem}
@@ -146,29 +146,6 @@ made-sound table style page inner made of (problem, is, sound) =
     (record { cols = (out-Table table).cols; rows = (out-Table table).rows; style = style; width = page; cells = made }) is
     (made-problem table style page inner made of)) sound
 
--- ---- a cell that begins within the page and is low there
-
-pub low-at_start : (needs : Table → ℕ → ℕ → Type 0) → IsFunctional needs → (page : ℕ) (cell : OpenCell) (start : ℕ) →
-    IsStart (CellNeeds needs cell) start → start ≤ page → (h : ℕ) × CellNeeds needs cell start h × (h ≤ MAX_HEIGHT) →
-    IsLowCell needs page cell
-low-at_start needs functional page cell start begins within low = record {
-  some = begins.has page within;
-  low = λ other h first need.
-      let before = first.from start low.0 low.1 in
-      let after = begins.from other h need in
-      let same : other ≡ start = omega (arith, before, after) in
-      let one = cell-functional needs functional cell start h low.0 (subst (λ w. CellNeeds needs cell w h) same need) low.1 in
-      omega (arith, one, low.2);
-}
-
-pub start-low : (needs : Table → ℕ → ℕ → Type 0) (page : ℕ) (cell : OpenCell) (start : ℕ) → IsStart (CellNeeds needs cell) start →
-    IsLowCell needs page cell → (start ≤ page) × ((h : ℕ) × CellNeeds needs cell start h × (h ≤ MAX_HEIGHT))
-start-low needs page cell start begins low =
-    let first = begins.has start (omega arith) in (
-      begins.from page low.some.0 low.some.1,
-      (first.0, first.1, low.low start first.0 begins first.1),
-    )
-
 -- ---- loops over the blocks of a cell and the cells of a table
 
 pub have-blocks : (inner : List InnerSteps) (cell : OpenCell) → HaveSteps inner (tables_in cell) →
@@ -196,13 +173,6 @@ cells-more inner page cells k cell made one inside is before here =
     (made ++ one ∷ [])) (sym (take_more cells k cell inside ∙ ap (λ last. take k cells ++ last ∷ []) (sym is)))
     (AllZip-push (λ any other. IsCellBy (NeedsBy Low inner) (NeedsBy High inner) page (out-TableCell any) other) (take k cells)
     made cell one before here)
-
-pub low-more-cells : (inner : List InnerSteps) (page : ℕ) (cells : List TableCell) (k : ℕ) (cell : TableCell) → k < length cells →
-    cell ≡ get_or cells k cell → AreLowCells inner page (take k cells) → IsLowByBoth inner page (out-TableCell cell) →
-    AreLowCells inner page (take (k + 1) cells)
-low-more-cells inner page cells k cell inside is before here =
-    subst (AreLowCells inner page) (sym (take_more cells k cell inside ∙ ap (λ last. take k cells ++ last ∷ []) (sym is)))
-    (AllByRecursion-append (λ any. IsLowByBoth inner page (out-TableCell any)) (take k cells) (cell ∷ []) before (here, tt))
 
 -- the same from each block, from each cell, and one more of them
 pub blocks-have : (inner : List InnerSteps) (cell : OpenCell) →

@@ -1,19 +1,21 @@
 //! The heights that a cell needs at each width, as steps: its blocks one under the other, all from the
 //! least width of the cell on.
 
-ghost use Rattle.std.specs.Prelude.{◌≡◌, ◌+◌, ◌≤◌, ◌↔◌, ℕ, Some, IfOk, IsTrue};
+ghost use Rattle.std.specs.Prelude.{◌≡◌, ◌+◌, ◌≤◌, ◌↔◌, ℕ, Some, IfOk, IsTrue, MatchOption};
+ghost use Rattle.std.specs.List.{All};
 ghost use Rattle.tl_base.specs.Steps.{AreSteps, first_height, height_at, stacked_height};
 ghost use Rattle.tl_table.specs.declared.cell.Content.{out-Content};
 ghost use Rattle.tl_table.specs.declared.cell.TableCell.{out-TableCell};
 ghost use Rattle.tl_form.specs.Problems.{AreStepsOf, BlockNeeds, CellNeeds};
 ghost use Rattle.tl_table.specs.Tables.{tables_of, tables_in};
-ghost use Rattle.tl_form.specs.inner.CellSteps.{From, HaveSteps, IsLowCell, IsStart, NeedsBy};
+ghost use Rattle.tl_form.specs.declared.heights.Bound.TheVariants.{Low, High};
+ghost use Rattle.tl_form.specs.inner.CellSteps.{From, HaveSteps, IsLowCell, IsPlainBlock, IsStart, NeedsBy};
 
 use crate::heights::{Bound, InnerSteps, bound_for, start_of};
 use std::alloc::{AllocError, Global};
 use tl_base::{Config, List, MAX_HEIGHT, MAX_PAGE_WIDTH, Steps};
 use tl_table::{Content, TableCell};
-use tl_text::{configs, count_lines, least_width};
+use tl_text::{configs, least_width};
 
 /// The least width at which the block has a height.
 fn block_start(block: &Content, inner: &[InnerSteps], bound: Bound) -> u32
@@ -36,36 +38,6 @@ pub fn cell_start(cell: &TableCell, inner: &[InnerSteps], bound: Bound) -> u32
         start = start.max(block_start(block, inner, bound));
     }
     start
-}
-
-/// The height of the block at this width.
-fn block_height(block: &Content, width: u32, inner: &[InnerSteps], bound: Bound) -> u32
-    requires steps { HaveSteps inner.now (tables_of (out-Content block.now)) }
-    requires some { (h : ℕ) × BlockNeeds (NeedsBy bound inner.now) (out-Content block.now) width h }
-    ensures { BlockNeeds (NeedsBy bound inner.now) (out-Content block.now) width result }
-{
-    match block {
-        Content::Para(paragraph) => count_lines(paragraph, width).unwrap(),
-        Content::Table(table) => bound_for(inner, table.number, bound)
-            .height_at(width)
-            .unwrap(),
-    }
-}
-
-/// Whether the cell, which has a height at this width, is no higher there than the limit.
-pub fn is_low(cell: &TableCell, width: u32, inner: &[InnerSteps], bound: Bound) -> bool
-    requires steps { HaveSteps inner.now (tables_in (out-TableCell cell.now)) }
-    requires some { (h : ℕ) × CellNeeds (NeedsBy bound inner.now) (out-TableCell cell.now) width h }
-    ensures { IsTrue result ↔ ((h : ℕ) × CellNeeds (NeedsBy bound inner.now) (out-TableCell cell.now) width h × (h ≤ MAX_HEIGHT)) }
-{
-    let mut height: u64 = 0;
-    for block in cell.blocks.as_slice() {
-        height += u64::from(block_height(block, width, inner, bound));
-        if height > u64::from(MAX_HEIGHT) {
-            return false;
-        }
-    }
-    true
 }
 
 /// The steps from one width on and up to another.
@@ -105,6 +77,9 @@ fn block_steps(
     match block {
         Content::Para(paragraph) => {
             let steps = configs(alloc, paragraph, page)?;
+            if steps.least() == from {
+                return Ok(steps);
+            }
             between(alloc, &steps, from, page)
         }
         Content::Table(table) => {
@@ -127,34 +102,97 @@ fn flat(alloc: Global, from: u32, page: u32) -> Result<Steps, AllocError>
     Ok(Steps::from_list(list))
 }
 
-/// The steps of two things one above the other.
-fn stacked(alloc: Global, above: &Steps, below: &Steps) -> Result<Steps, AllocError>
-    requires { first_height above.now + first_height below.now ≤ MAX_HEIGHT }
-    ensures decreasing { IfOk result AreSteps }
-    ensures heights { IfOk result (λ steps. (w : ℕ) → height_at steps w ≡ stacked_height above.now below.now w) }
+/// Whether two things one above the other need no more lines than the limit.
+fn are_low(above: &Steps, below: &Steps) -> bool
+    ensures { IsTrue result ↔ (first_height above.now + first_height below.now ≤ MAX_HEIGHT) }
 {
-    let steps = Steps::stack(alloc, above, below)?;
+    u64::from(above.max_height()) + u64::from(below.max_height()) <= u64::from(MAX_HEIGHT)
+}
+
+/// Whether the steps need no line at any width.
+fn need_no_line(steps: &Steps) -> bool
+    ensures none { IsTrue result ↔ (first_height steps.now ≡ 0) }
+    ensures sound { AreSteps steps.now }
+{
+    steps.configs()[0].height == 0
+}
+
+/// The steps of two things one above the other. Where the one above needs no line they are those below.
+fn stacked(alloc: Global, above: &Steps, below: Steps) -> Result<Steps, AllocError>
+    requires { first_height above.now + first_height below ≤ MAX_HEIGHT }
+    ensures decreasing { IfOk result AreSteps }
+    ensures heights { IfOk result (λ steps. (w : ℕ) → height_at steps w ≡ stacked_height above.now below w) }
+{
+    if need_no_line(above) && above.least() <= below.least() {
+        return Ok(below);
+    }
+    let steps = Steps::stack(alloc, above, &below)?;
     Ok(steps)
 }
 
-/// The steps of the cell on a page of `page` columns.
+/// The steps of the cell on a page of `page` columns. `None` exactly where it has no height there, or one
+/// above the limit.
 pub fn cell_steps(
     alloc: Global,
     cell: &TableCell,
     page: u32,
     inner: &[InnerSteps],
     bound: Bound,
-) -> Result<Steps, AllocError>
+) -> Result<Option<Steps>, AllocError>
     requires steps { HaveSteps inner.now (tables_in (out-TableCell cell.now)) }
-    requires low { IsLowCell (NeedsBy bound inner.now) page (out-TableCell cell.now) }
     requires narrow { page ≤ MAX_PAGE_WIDTH }
-    ensures { IfOk result (AreStepsOf (CellNeeds (NeedsBy bound inner.now) (out-TableCell cell.now)) page) }
+    ensures { IfOk result (λ found. MatchOption found
+        (IsLowCell (NeedsBy bound inner.now) page (out-TableCell cell.now) → ⊥)
+        (AreStepsOf (CellNeeds (NeedsBy bound inner.now) (out-TableCell cell.now)) page)) }
 {
     let start = cell_start(cell, inner, bound);
+    if page < start {
+        return Ok(None);
+    }
     let mut steps = flat(alloc, start, page)?;
     for block in cell.blocks.as_slice() {
         let below = block_steps(alloc, block, start, page, inner, bound)?;
-        steps = stacked(alloc, &steps, &below)?;
+        if !are_low(&steps, &below) {
+            return Ok(None);
+        }
+        steps = stacked(alloc, &steps, below)?;
     }
-    Ok(steps)
+    Ok(Some(steps))
+}
+
+/// Whether the block is a paragraph.
+fn is_paragraph(block: &Content) -> bool
+    ensures { IsTrue result ↔ IsPlainBlock block.now }
+{
+    matches!(block, Content::Para(_))
+}
+
+/// Whether no table is nested in the cell.
+fn is_plain(cell: &TableCell) -> bool
+    ensures { IsTrue result ↔ All IsPlainBlock (out-TableCell cell.now).blocks }
+{
+    cell.blocks.as_slice().iter().all(is_paragraph)
+}
+
+/// The steps of the cell by the upper bounds, where `low` are those by the lower ones: the same steps where
+/// no table is nested in it. `None` exactly where it has no height on the page, or one above the limit.
+pub fn high_steps(
+    alloc: Global,
+    cell: &TableCell,
+    page: u32,
+    inner: &[InnerSteps],
+    low: &Steps,
+) -> Result<Option<Steps>, AllocError>
+    requires steps { HaveSteps inner.now (tables_in (out-TableCell cell.now)) }
+    requires low { AreStepsOf (CellNeeds (NeedsBy Low inner.now) (out-TableCell cell.now)) page low.now }
+    requires narrow { page ≤ MAX_PAGE_WIDTH }
+    ensures { IfOk result (λ found. MatchOption found
+        (IsLowCell (NeedsBy High inner.now) page (out-TableCell cell.now) → ⊥)
+        (AreStepsOf (CellNeeds (NeedsBy High inner.now) (out-TableCell cell.now)) page)) }
+{
+    if !is_plain(cell) {
+        return cell_steps(alloc, cell, page, inner, Bound::High);
+    }
+    let same = List::from_slice(alloc, low.configs())?;
+    Ok(Some(Steps::from_list(same)))
 }

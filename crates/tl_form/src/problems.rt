@@ -7,90 +7,68 @@ ghost use Rattle.tl_table.specs.declared.cell.TableCell.{out-TableCell};
 ghost use Rattle.tl_problem.specs.Sound.{IsSound};
 ghost use Rattle.tl_form.specs.Problems.{HasSoundProblem, IsCellBy, IsProblemOf};
 ghost use Rattle.tl_table.specs.Tables.{inner_tables, tables_in};
-ghost use Rattle.tl_form.specs.inner.CellSteps.{AreLowCells, HaveSteps, IsLowByBoth, IsLowCell, NeedsBy};
+ghost use Rattle.tl_form.specs.inner.CellSteps.{AreLowCells, HaveSteps, IsLowByBoth, NeedsBy};
 ghost use Rattle.tl_form.specs.declared.heights.Bound.TheVariants.{Low, High};
 
-use crate::cell_steps::{cell_start, cell_steps, is_low};
+use crate::cell_steps::{cell_steps, high_steps};
 use crate::heights::{Bound, InnerSteps, have_steps};
 use std::alloc::{AllocError, Global};
 use tl_base::{List, MAX_PAGE_WIDTH, Style};
 use tl_problem::{Cell, Problem};
 use tl_table::{Table, TableCell};
 
-/// The cell of the problem: the place of this one, and what it needs by both bounds.
+/// The cell of the problem: the place of this one, and what it needs by both bounds. `None` exactly where it
+/// has no height on the page by one of them, or one above the limit.
 fn problem_cell(
     alloc: Global,
     cell: &TableCell,
     page: u32,
     inner: &[InnerSteps],
-) -> Result<Cell, AllocError>
+) -> Result<Option<Cell>, AllocError>
     requires steps { HaveSteps inner.now (tables_in (out-TableCell cell.now)) }
-    requires low { IsLowByBoth inner.now page (out-TableCell cell.now) }
     requires narrow { page ≤ MAX_PAGE_WIDTH }
-    ensures { IfOk result (IsCellBy (NeedsBy Low inner.now) (NeedsBy High inner.now) page (out-TableCell cell.now)) }
+    ensures { IfOk result (λ found. MatchOption found (IsLowByBoth inner.now page (out-TableCell cell.now) → ⊥)
+        (IsCellBy (NeedsBy Low inner.now) (NeedsBy High inner.now) page (out-TableCell cell.now))) }
 {
-    let low = cell_steps(alloc, cell, page, inner, Bound::Low)?;
-    let high = cell_steps(alloc, cell, page, inner, Bound::High)?;
+    let Some(low) = cell_steps(alloc, cell, page, inner, Bound::Low)? else {
+        return Ok(None);
+    };
+    let Some(high) = high_steps(alloc, cell, page, inner, &low)? else {
+        return Ok(None);
+    };
     let place = cell.place;
-    Ok(Cell {
+    Ok(Some(Cell {
         left: place.left,
         right: place.right,
         top: place.top,
         bottom: place.bottom,
         low,
         high,
-    })
+    }))
 }
 
-/// The cells of the problem, in the order of the table's.
+/// The cells of the problem, in the order of the table's. `None` exactly where one of them has no height on
+/// the page by one of both bounds, or one above the limit.
 fn problem_cells(
     alloc: Global,
     table: &Table,
     page: u32,
     inner: &[InnerSteps],
-) -> Result<List<Cell>, AllocError>
+) -> Result<Option<List<Cell>>, AllocError>
     requires steps { HaveSteps inner.now (inner_tables (out-Table table.now)) }
-    requires low { AreLowCells inner.now page (out-Table table.now).cells }
     requires narrow { page ≤ MAX_PAGE_WIDTH }
-    ensures { IfOk result (AllZip (λ cell made. IsCellBy (NeedsBy Low inner.now) (NeedsBy High inner.now) page
-        (out-TableCell cell) made) (out-Table table.now).cells) }
+    ensures { IfOk result (λ found. MatchOption found (AreLowCells inner.now page (out-Table table.now).cells → ⊥)
+        (AllZip (λ cell made. IsCellBy (NeedsBy Low inner.now) (NeedsBy High inner.now) page
+        (out-TableCell cell) made) (out-Table table.now).cells)) }
 {
     let mut cells = List::new(alloc);
     for cell in table.cells.as_slice() {
-        cells.push(problem_cell(alloc, cell, page, inner)?)?;
+        let Some(made) = problem_cell(alloc, cell, page, inner)? else {
+            return Ok(None);
+        };
+        cells.push(made)?;
     }
-    Ok(cells)
-}
-
-/// Whether the cell has a height by this bound on a page of `page` columns, and none above the limit.
-fn is_low_by(cell: &TableCell, page: u32, inner: &[InnerSteps], bound: Bound) -> bool
-    requires { HaveSteps inner.now (tables_in (out-TableCell cell.now)) }
-    ensures { IsTrue result ↔ IsLowCell (NeedsBy bound inner.now) page (out-TableCell cell.now) }
-{
-    let start = cell_start(cell, inner, bound);
-    start <= page && is_low(cell, start, inner, bound)
-}
-
-/// Whether the cell has a height by both bounds on a page of `page` columns, and none above the limit.
-fn is_low_cell(cell: &TableCell, page: u32, inner: &[InnerSteps]) -> bool
-    requires { HaveSteps inner.now (tables_in (out-TableCell cell.now)) }
-    ensures { IsTrue result ↔ IsLowByBoth inner.now page (out-TableCell cell.now) }
-{
-    is_low_by(cell, page, inner, Bound::Low) && is_low_by(cell, page, inner, Bound::High)
-}
-
-/// Whether each cell has a height by both bounds on a page of `page` columns, and none above the
-/// limit.
-fn are_low_cells(table: &Table, page: u32, inner: &[InnerSteps]) -> bool
-    requires { HaveSteps inner.now (inner_tables (out-Table table.now)) }
-    ensures { IsTrue result ↔ AreLowCells inner.now page (out-Table table.now).cells }
-{
-    for cell in table.cells.as_slice() {
-        if !is_low_cell(cell, page, inner) {
-            return false;
-        }
-    }
-    true
+    Ok(Some(cells))
 }
 
 /// The problem of the table on a page of `width` columns, with these heights for the tables nested
@@ -107,8 +85,7 @@ pub fn problem(
     requires { HasSoundProblem table.now style width inner.now }
     ensures { IfOk result (IsProblemOf table.now style width inner.now) }
 {
-    let cells = problem_cells(alloc, table, width, inner)?;
-    Problem::new(alloc, table.cols, table.rows, style, width, cells)
+    Ok(sound_problem(alloc, table, style, width, inner)?.unwrap())
 }
 
 /// The problem of the table on a page of `width` columns, with these heights for the tables nested
@@ -129,10 +106,9 @@ pub fn sound_problem(
     if !have_steps(table, inner) {
         return Ok(None);
     }
-    if !are_low_cells(table, width, inner) {
+    let Some(cells) = problem_cells(alloc, table, width, inner)? else {
         return Ok(None);
-    }
-    let cells = problem_cells(alloc, table, width, inner)?;
+    };
     if !Problem::is_sound(table.cols, table.rows, style, width, cells.as_slice()) {
         return Ok(None);
     }

@@ -1,8 +1,9 @@
 -- What does not depend on how many workers there are, and what not on the search either: two runs on the same files, by arguments
 -- that differ in nothing else.
-use Rattle.std.specs.Prelude.{◌≡◌, ◌⊎◌, ℕ, List, [], None, Some}
+use Rattle.std.specs.Prelude.{◌≡◌, ◌⊎◌, ℕ, List, [], Option, None, Some}
 use Rattle.tl_base.specs.Desk.{Files, longer}
 use Rattle.tl_command.specs.declared.command.Command.TheVariants.{Lay, Tidy, Check}
+use Rattle.tl_command.specs.declared.options.Search.{Search}
 use Rattle.tl_command.specs.Ask.{Asked}
 use Rattle.tl_table.specs.declared.cell.Table.{Table, out-Table}
 use Rattle.tl_table.specs.Tables.{inner_tables}
@@ -17,62 +18,36 @@ use Rattle.tl_program.specs.Headline.{Ends}
 use Rattle.tl_program.specs.Messages.{message_of}
 use Rattle.tl_program.specs.Tasks.{source_of}
 
--- what is asked for, but for the workers
-abbrev pub but_workers : Asked → Asked
-but_workers asked = record {
+-- what is asked for, with these options of effort in the place of its own: a budget, a search and workers
+abbrev pub with_effort : Option ℕ → Option Search → Option ℕ → Asked → Asked
+with_effort budget search workers asked = record {
   command = asked.command;
   number = asked.number;
   names = asked.names;
   options = record {
     style = asked.options.style;
     breaking = asked.options.breaking;
-    budget = asked.options.budget;
-    search = asked.options.search;
-    workers = None;
+    budget = budget;
+    search = search;
+    workers = workers;
     csv = asked.options.csv;
     head = asked.options.head;
     least = asked.options.least;
     html = asked.options.html;
   };
 }
+
+-- what is asked for, but for the workers
+abbrev pub but_workers : Asked → Asked
+but_workers asked = with_effort asked.options.budget asked.options.search None asked
 
 -- what is asked for, but for the workers and the search
 abbrev pub but_search : Asked → Asked
-but_search asked = record {
-  command = asked.command;
-  number = asked.number;
-  names = asked.names;
-  options = record {
-    style = asked.options.style;
-    breaking = asked.options.breaking;
-    budget = asked.options.budget;
-    search = None;
-    workers = None;
-    csv = asked.options.csv;
-    head = asked.options.head;
-    least = asked.options.least;
-    html = asked.options.html;
-  };
-}
+but_search asked = with_effort asked.options.budget None None asked
 
 -- what is asked for, but for the workers, the search and the budget
 abbrev pub but_effort : Asked → Asked
-but_effort asked = record {
-  command = asked.command;
-  number = asked.number;
-  names = asked.names;
-  options = record {
-    style = asked.options.style;
-    breaking = asked.options.breaking;
-    budget = None;
-    search = None;
-    workers = None;
-    csv = asked.options.csv;
-    head = asked.options.head;
-    least = asked.options.least;
-    html = asked.options.html;
-  };
-}
+but_effort asked = with_effort None None None asked
 
 -- both begin with the same files
 abbrev pub BeginAlike : Change → Change → Type 0

@@ -17,7 +17,7 @@ ghost use Rattle.tl_read.specs.inner.Steps.{ReadsTree, ReadsTokens, ReadsBytes, 
 use crate::Source;
 use crate::refusal::{Limit, Refusal, csv_refusal, form_refusal, token_refusal, tree_refusal};
 use std::alloc::{AllocError, Global};
-use tl_base::{Breaking, MAX_FILE_BYTES};
+use tl_base::{Breaking, List, MAX_FILE_BYTES};
 use tl_columns::from_csv;
 use tl_table::{Table, formed_has_few_cells, table};
 use tl_token::{Token, tokens};
@@ -68,22 +68,30 @@ fn read_tree(alloc: Global, node: &TableNode, breaking: Breaking) -> Result<Read
     }
 }
 
-/// The table that the tokens of a file of `size` bytes are, or why they are none.
+/// Gives the memory of the tokens back.
+fn free(_tokens: List<Token>) {}
+
+/// The table that the tokens of a file of `size` bytes are, or why they are none. The tree has its own text,
+/// so the tokens are gone before the table is made.
 fn read_tokens(
     alloc: Global,
     size: u32,
-    tokens: &[Token],
+    tokens: List<Token>,
     breaking: Breaking,
 ) -> Result<Reading, AllocError>
-    requires { AreReadable tokens.now }
-    ensures is { IfOk result (ReadsTokens breaking size tokens.now) }
-    ensures each { (reading : Reading) → ReadsTokens breaking size tokens.now reading → IfOk result (λ found. AreSameReadings found reading) }
+    requires { AreReadable tokens }
+    ensures is { IfOk result (ReadsTokens breaking size tokens) }
+    ensures each { (reading : Reading) → ReadsTokens breaking size tokens reading → IfOk result (λ found. AreSameReadings found reading) }
     ensures sound { IfOk result IsSoundReading }
     ensures spellable { IfOk result (IsSpellableReading (Html breaking)) }
 {
-    match tree(alloc, tokens) {
-        Ok(node) => read_tree(alloc, &node, breaking),
-        Err(error) => refused(tree_refusal(size, tokens, error)),
+    let lent = tokens.as_slice();
+    match tree(alloc, lent) {
+        Ok(node) => {
+            free(tokens);
+            read_tree(alloc, &node, breaking)
+        }
+        Err(error) => refused(tree_refusal(size, lent, error)),
     }
 }
 
@@ -96,7 +104,7 @@ fn read_html(alloc: Global, bytes: &[u8], breaking: Breaking) -> Result<Reading,
     ensures spellable { IfOk result (IsSpellableReading (Html breaking)) }
 {
     match tokens(alloc, bytes) {
-        Ok(tokens) => read_tokens(alloc, bytes.len() as u32, tokens.as_slice(), breaking),
+        Ok(tokens) => read_tokens(alloc, bytes.len() as u32, tokens, breaking),
         Err(error) => refused(token_refusal(error)),
     }
 }

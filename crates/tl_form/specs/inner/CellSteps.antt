@@ -1,5 +1,5 @@
 -- What the calls that find the steps of a cell promise each other. No public clause cites this file.
-use Rattle.std.specs.Prelude.{◌≡◌, ℕ, ◌≤◌, List, IsSome, sum}
+use Rattle.std.specs.Prelude.{◌≡◌, ℕ, ◌≤◌, List, [], IsSome, sum}
 use Rattle.std.specs.List.{AllZip, AllByRecursion}
 use Rattle.tl_base.specs.declared.limits.TheConstants.{MAX_HEIGHT}
 use Rattle.tl_base.specs.declared.steps.Config.{Config}
@@ -9,7 +9,7 @@ use Rattle.tl_table.specs.declared.cell.TableCell.{TableCell, out-TableCell}
 use Rattle.tl_form.specs.declared.heights.Bound.{Bound}
 use Rattle.tl_form.specs.declared.heights.Bound.TheVariants.{Low, High}
 use Rattle.tl_form.specs.declared.heights.InnerSteps.{InnerSteps}
-use Rattle.tl_table.specs.Tables.{OpenCell}
+use Rattle.tl_table.specs.Tables.{OpenCell, tables_of}
 use Rattle.tl_form.specs.Problems.{BlockNeeds, CellNeeds, InnerNeeds, steps_for}
 
 -- the steps of a nested table that are this bound
@@ -38,6 +38,10 @@ From from needs w h = (from ≤ w) × needs w h
 abbrev pub BlocksNeed : (Table → ℕ → ℕ → Type 0) → List Content → ℕ → ℕ → Type 0
 BlocksNeed needs blocks w h = (heights : List ℕ)
     × AllZip (λ block height. BlockNeeds needs (out-Content block) w height) blocks heights × (sum heights ≡ h)
+
+-- no table is nested in the block
+abbrev pub IsPlainBlock : Content → Type 0
+IsPlainBlock block = tables_of (out-Content block) ≡ []
 
 -- the cell has a height on a page of so many columns, and its greatest, at its least width, is within the limit
 pub record IsLowCell (needs : Table → ℕ → ℕ → Type 0) (page : ℕ) (cell : OpenCell) : Type 0 where

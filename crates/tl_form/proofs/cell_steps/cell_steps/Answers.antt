@@ -1,4 +1,4 @@
-use Rattle.std.proofs.Common.{◌≡◌, ◌<◌, ◌≤◌, take, length, get_or, subst, sym, arith}
+use Rattle.std.proofs.Common.{◌≡◌, ◌<◌, ◌≤◌, ◌∙◌, true, false, take, length, get_or, subst, sym, arith}
 use Rattle.tl_table.specs.declared.cell.Content.{out-Content}
 use Rattle.tl_table.specs.declared.cell.TableCell.{out-TableCell}
 use Rattle.tl_form.specs.inner.CellSteps.{HaveSteps, NeedsBy, bound_of}
@@ -10,8 +10,16 @@ use Rattle.tl_form.proofs.ProblemCells.{have-blocks}
 use Rattle.tl_table.proofs.SoundParts.{at_item}
 use Rattle.tl_form.proofs.cell_steps.cell_steps.Goals as goal
 
+passed : false ≡ true → ⊥
+passed equal = cc
+
+pub returns-then-page-start : goal.returns-then-page-start
+returns-then-page-start c = λ low.
+    let within = c.cell_start-start.ensures.from c.args.page low.some.0 low.some.1 in
+    omega (arith, within, c.if-page-start.true)
+
 pub flat-requires : goal.flat-requires
-flat-requires c = c.cell_start-start.ensures.from c.args.page c.requires.low.some.0 c.requires.low.some.1
+flat-requires c = c.if-page-start.false
 
 pub loop-block-init : goal.loop-block-init
 loop-block-init c = steps-none (NeedsBy c.args.bound c.args.inner.now)
@@ -39,19 +47,20 @@ block_steps-requires-clause-some c =
     c.as_slice-block-items.ensures c.block-item.is)
 
 pub block_steps-requires-clause-within : goal.block_steps-requires-clause-within
-block_steps-requires-clause-within c = c.cell_start-start.ensures.from c.args.page c.requires.low.some.0 c.requires.low.some.1
+block_steps-requires-clause-within c = c.if-page-start.false
 
-pub stacked-requires : goal.stacked-requires
-stacked-requires c =
-    low-together (NeedsBy c.args.bound c.args.inner.now) (inner-functional (bound_of c.args.bound) c.args.inner.now)
+pub returns-then-not-are_low : goal.returns-then-not-are_low
+returns-then-not-are_low c = λ low.
+    let together = low-together (NeedsBy c.args.bound c.args.inner.now) (inner-functional (bound_of c.args.bound) c.args.inner.now)
     (out-TableCell c.args.cell.now)
     c.args.page c.cell_start-start.result c.loop-block.block-index c.block-item.result c.loop-block.steps c.in_ok-below.below
-    c.requires.low
+    low
     c.cell_start-start.ensures
     (subst (λ items. c.loop-block.block-index < length items) c.as_slice-block-items.ensures c.loop-block-test.true)
     (subst (λ items. c.block-item.result ≡ get_or items c.loop-block.block-index c.block-item.result)
     c.as_slice-block-items.ensures c.block-item.is)
-    c.loop-block.invariant c.in_ok-below.ensures
+    c.loop-block.invariant c.in_ok-below.ensures in
+    passed (sym c.if-not-are_low.true ∙ c.are_low.ensures.1 together)
 
 pub loop-block-preserved : goal.loop-block-preserved
 loop-block-preserved c =

@@ -1,5 +1,5 @@
 -- The problem of the steps that the sections tell is the section's.
-use Rattle.std.proofs.Common.{◌≡◌, ℕ, List, Result, Ok, Err, Option, Some, None, subst}
+use Rattle.std.proofs.Common.{ℕ, List, Result, Ok, Err, Option, Some, None, subst}
 use Rattle.std.specs.Prelude.{IfOk, MatchOption}
 use Rattle.std.specs.declared.alloc.AllocError.{AllocError}
 use Rattle.tl_base.specs.declared.style.Style.{Style}

@@ -20,14 +20,14 @@ problem_cell-requires-clause-steps c =
     (subst (λ items. c.cell-item.result ≡ get_or items c.loop-cell.cell-index c.cell-item.result)
     c.as_slice-cell-items.ensures c.cell-item.is)
 
-pub problem_cell-requires-clause-low : goal.problem_cell-requires-clause-low
-problem_cell-requires-clause-low c =
-    at_item (λ cell. IsLowByBoth c.args.inner.now c.args.page (out-TableCell cell))
+pub returns-in_default : goal.returns-in_default
+returns-in_default c = λ low. (rw c.in_default.is at c.in_ok-made.ensures)
+    (at_item (λ cell. IsLowByBoth c.args.inner.now c.args.page (out-TableCell cell))
     (out-Table c.args.table.now).cells c.loop-cell.cell-index
-    c.cell-item.result c.requires.low
+    c.cell-item.result low
     (subst (λ items. c.loop-cell.cell-index < length items) c.as_slice-cell-items.ensures c.loop-cell-test.true)
     (subst (λ items. c.cell-item.result ≡ get_or items c.loop-cell.cell-index c.cell-item.result)
-    c.as_slice-cell-items.ensures c.cell-item.is)
+    c.as_slice-cell-items.ensures c.cell-item.is))
 
 pub loop-cell-preserved : goal.loop-cell-preserved
 loop-cell-preserved c =
@@ -36,11 +36,11 @@ loop-cell-preserved c =
     subst (λ made. AllZip (λ cell one. IsCellBy (NeedsBy Low c.args.inner.now) (NeedsBy High c.args.inner.now) c.args.page
     (out-TableCell cell) one)
     (take (i + 1) cells) made) (sym c.in_ok-push.ensures.ok)
-    (cells-more c.args.inner.now c.args.page cells i c.cell-item.result c.loop-cell.cells c.in_ok-problem_cell.field-0
+    (cells-more c.args.inner.now c.args.page cells i c.cell-item.result c.loop-cell.cells c.in-Some.made
     (subst (λ items. c.loop-cell.cell-index < length items) c.as_slice-cell-items.ensures c.loop-cell-test.true)
     (subst (λ items. c.cell-item.result ≡ get_or items c.loop-cell.cell-index c.cell-item.result)
     c.as_slice-cell-items.ensures c.cell-item.is)
-    c.loop-cell.invariant c.in_ok-problem_cell.ensures)
+    c.loop-cell.invariant (rw c.in-Some.is at c.in_ok-made.ensures))
 
 pub returns : goal.returns
 returns c =

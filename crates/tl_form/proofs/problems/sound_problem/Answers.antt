@@ -12,9 +12,8 @@ pub returns-then-not-have_steps : goal.returns-then-not-have_steps
 returns-then-not-have_steps c = λ has. passed (sym c.if-not-have_steps.true ∙ c.have_steps.ensures.1
     (have-steps c.args.table.now c.args.style c.args.width c.args.inner.now has))
 
-pub returns-then-not-are_low_cells : goal.returns-then-not-are_low_cells
-returns-then-not-are_low_cells c = λ has. passed (sym c.if-not-are_low_cells.true ∙ c.are_low_cells.ensures.1
-    (are-low c.args.table.now c.args.style c.args.width c.args.inner.now has))
+pub returns-in_default : goal.returns-in_default
+returns-in_default c = λ has. (rw c.in_default.is at c.in_ok-cells.ensures) (are-low c.args.table.now c.args.style c.args.width c.args.inner.now has)
 
 pub returns-then-not-is_sound : goal.returns-then-not-is_sound
 returns-then-not-is_sound c = λ has.
@@ -28,4 +27,4 @@ returns-then-not-is_sound c = λ has.
       cells = made;
     }))
     (sym c.as_slice.ensures)
-    (made-sound c.args.table.now c.args.style c.args.width c.args.inner.now c.in_ok-cells.cells c.in_ok-cells.ensures has)))
+    (made-sound c.args.table.now c.args.style c.args.width c.args.inner.now c.in-Some.cells (rw c.in-Some.is at c.in_ok-cells.ensures) has)))

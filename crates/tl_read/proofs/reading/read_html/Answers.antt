@@ -1,24 +1,18 @@
 -- Whatever the bytes are read as, is found.
-use Rattle.std.proofs.Common.{◌∙◌, List, length, sym, subst}
-use Rattle.tl_token.specs.declared.token.Token.{Token}
-use Rattle.tl_tree.specs.Readable.{AreReadable}
+use Rattle.std.proofs.Common.{◌∙◌, sym}
 use Rattle.tl_tree.proofs.ReadableTokens.{tokens_readable}
-use Rattle.tl_read.specs.inner.Steps.{ReadsTokens}
 use Rattle.tl_read.proofs.Readings.{found_alike, bytes_refused_alike, bytes_alike}
 use Rattle.tl_read.proofs.reading.read_html.Goals as goal
 
 pub read_tokens-requires : goal.read_tokens-requires
 read_tokens-requires c =
-    subst AreReadable (sym c.as_slice.ensures)
-    (tokens_readable c.args.bytes.now c.in-Ok.tokens c.in-Ok.ensures.ok c.in-Ok.ensures.size c.requires)
+    tokens_readable c.args.bytes.now c.in-Ok.tokens c.in-Ok.ensures.ok c.in-Ok.ensures.size c.requires
 
 pub returns-in-Ok-clause-each : goal.returns-in-Ok-clause-each
 returns-in-Ok-clause-each c = λ reading is.
     bytes_alike c.args.breaking c.args.bytes.now c.in-Ok.tokens c.read_tokens.result reading
     (λ others spells. c.in-Ok.ensures.each_ok others spells) (λ cause fault. c.in-Ok.ensures.each_err cause fault)
-    (λ other from. c.read_tokens.ensures.each other
-    (subst (λ (ts : List Token). ReadsTokens c.args.breaking (length c.args.bytes.now) ts other) (sym c.as_slice.ensures) from))
-    is
+    (λ other from. c.read_tokens.ensures.each other from) is
 
 pub returns-in-Err-clause-each : goal.returns-in-Err-clause-each
 returns-in-Err-clause-each c = λ reading is.

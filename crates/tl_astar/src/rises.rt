@@ -1,0 +1,169 @@
+//! How much higher rows become where spans get less room, by the `low` of their cells.
+
+use crate::shape::{Shape, number_at, raise};
+use std::alloc::{AllocError, Global};
+use std::cmp::Reverse;
+use tl_problem::Cell;
+
+/// Below `width` columns of room a cell makes its strip at least `height` lines high.
+#[derive(Clone, Copy)]
+pub(crate) struct Rise {
+    pub(crate) width: u32,
+    pub(crate) strip: usize,
+    pub(crate) height: u32,
+}
+
+/// The rises of each span, the widest first.
+#[derive(Drop)]
+pub(crate) struct Rises {
+    /// Those of one span after those of the other.
+    all: Vec<Rise>,
+    /// Where those of each span end.
+    ends: Vec<usize>,
+}
+
+impl Rises {
+    /// The rises between the least and the greatest room of each span that make a strip higher than this.
+    /// A cell that decides no row at any of these rooms has none.
+    pub(crate) fn of_cells(
+        alloc: Global,
+        shape: &Shape,
+        cells: &[Cell],
+        rooms: (&[u32], &[u32]),
+        heights: &[u32],
+    ) -> Result<Rises, AllocError> {
+        let mut rises = Rises::none(alloc);
+        let (least, most) = rooms;
+        for span in 0..shape.spans.len() {
+            let room = (number_at(least, span), number_at(most, span));
+            let found = rises_of_span(alloc, shape, cells, span, room, heights)?;
+            rises.all.extend_from_slice(&found)?;
+            rises.ends.push(rises.all.len())?;
+        }
+        Ok(rises)
+    }
+
+    /// Of these rises those between other rooms, and above other heights.
+    pub(crate) fn within(
+        &self,
+        alloc: Global,
+        rooms: (&[u32], &[u32]),
+        heights: &[u32],
+    ) -> Result<Rises, AllocError> {
+        let mut rises = Rises::none(alloc);
+        let (least, most) = rooms;
+        for span in 0..self.ends.len() {
+            let room = (number_at(least, span), number_at(most, span));
+            add_within(self.of_span(span), room, heights, &mut rises.all)?;
+            rises.ends.push(rises.all.len())?;
+        }
+        Ok(rises)
+    }
+
+    /// No rises.
+    fn none(alloc: Global) -> Rises {
+        Rises {
+            all: Vec::new(alloc),
+            ends: Vec::new(alloc),
+        }
+    }
+
+    /// The rises of a span, the widest first.
+    pub(crate) fn of_span(&self, span: usize) -> &[Rise] {
+        let begin = match span {
+            0 => 0,
+            _ => self.end_of(span - 1),
+        };
+        match self.all.get(begin..self.end_of(span)) {
+            Some(rises) => rises,
+            None => &[],
+        }
+    }
+
+    /// Where the rises of a span end.
+    fn end_of(&self, span: usize) -> usize {
+        self.ends.get(span).copied().unwrap_or(0)
+    }
+}
+
+/// Makes each strip as high as rises of a span want it at this room.
+pub(crate) fn raise_heights(rises: &[Rise], room: u32, heights: &mut [u32]) {
+    for rise in rises {
+        if rise.width <= room {
+            return;
+        }
+        raise(heights, rise.strip, rise.height);
+    }
+}
+
+/// The least room at which none of the rises of a span is above these lines of the strips, 0 where none is at any.
+pub(crate) fn room_for(rises: &[Rise], lines: &[u32]) -> u32 {
+    for rise in rises {
+        if rise.height > number_at(lines, rise.strip) {
+            return rise.width;
+        }
+    }
+    0
+}
+
+/// Adds the rises of a span from the least up to the greatest room that are above these heights.
+fn add_within(
+    rises: &[Rise],
+    room: (u32, u32),
+    heights: &[u32],
+    found: &mut Vec<Rise>,
+) -> Result<(), AllocError> {
+    let (least, most) = room;
+    for rise in rises {
+        if rise.width <= least {
+            return Ok(());
+        }
+        if rise.width <= most && rise.height > number_at(heights, rise.strip) {
+            found.push(*rise)?;
+        }
+    }
+    Ok(())
+}
+
+/// The rises of the cells of a span, the widest first.
+fn rises_of_span(
+    alloc: Global,
+    shape: &Shape,
+    cells: &[Cell],
+    span: usize,
+    room: (u32, u32),
+    heights: &[u32],
+) -> Result<Vec<Rise>, AllocError> {
+    let mut rises = Vec::new(alloc);
+    for &number in shape.cells_of(span) {
+        if let (Some(cell), Some(&strip)) = (cells.get(number), shape.strip_of.get(number)) {
+            add_rises(cell, strip, room, number_at(heights, strip), &mut rises)?;
+        }
+    }
+    rises.sort_unstable_by_key(|rise| Reverse(rise.width));
+    Ok(rises)
+}
+
+/// Adds the rises of a cell from the least up to the greatest room that are above the height.
+fn add_rises(
+    cell: &Cell,
+    strip: usize,
+    room: (u32, u32),
+    height: u32,
+    rises: &mut Vec<Rise>,
+) -> Result<(), AllocError> {
+    let (least, most) = room;
+    let steps = cell.low.configs();
+    for number in 1..steps.len() {
+        let width = steps[number].width;
+        let narrow = steps[number - 1].height;
+        if least < width && width <= most && narrow > height {
+            rises.push(Rise {
+                width,
+                strip,
+                height: narrow,
+            })?;
+        }
+    }
+    Ok(())
+}

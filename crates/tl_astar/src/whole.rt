@@ -1,0 +1,65 @@
+//! What the page leaves of a problem before any cut.
+
+use crate::rises::Rises;
+use crate::shape::{Shape, number_at, raise};
+use crate::spread::{Spread, greatest_rooms, least_rooms, page_spread};
+use std::alloc::{AllocError, Global};
+use tl_problem::Cell;
+
+/// What the page leaves: no zone has more room for a span, nor lower rows at its greatest rooms.
+pub(crate) struct Whole {
+    pub(crate) spread: Spread,
+    /// The height of each strip by `low` at the greatest rooms.
+    pub(crate) heights: Vec<u32>,
+    /// How much higher strips become at lesser rooms.
+    pub(crate) rises: Rises,
+}
+
+impl Drop for Whole {
+    fn drop(self) {
+        let Whole {
+            spread: _spread,
+            heights: _heights,
+            rises: _rises,
+        } = self;
+    }
+}
+
+impl Whole {
+    /// What the page leaves of these cells.
+    pub(crate) fn new(alloc: Global, shape: &Shape, cells: &[Cell]) -> Result<Whole, AllocError> {
+        let spread = page_spread(alloc, shape)?;
+        let least = least_rooms(alloc, shape, &spread)?;
+        let most = greatest_rooms(alloc, shape, &spread)?;
+        let heights = heights_at(alloc, shape, cells, &most)?;
+        let rises = Rises::of_cells(alloc, shape, cells, (&least, &most), &heights)?;
+        Ok(Whole {
+            spread,
+            heights,
+            rises,
+        })
+    }
+}
+
+/// The height of each strip by `low` at these rooms of the spans.
+fn heights_at(
+    alloc: Global,
+    shape: &Shape,
+    cells: &[Cell],
+    rooms: &[u32],
+) -> Result<Vec<u32>, AllocError> {
+    let mut heights = vec![in alloc; 0; shape.strips.len()]?;
+    for span in 0..shape.spans.len() {
+        raise_to_cells(shape, cells, span, number_at(rooms, span), &mut heights);
+    }
+    Ok(heights)
+}
+
+/// Makes each strip as high as the cells of a span need by `low` at this room.
+fn raise_to_cells(shape: &Shape, cells: &[Cell], span: usize, room: u32, heights: &mut [u32]) {
+    for &number in shape.cells_of(span) {
+        if let (Some(cell), Some(&strip)) = (cells.get(number), shape.strip_of.get(number)) {
+            raise(heights, strip, cell.low.height_at(room).unwrap_or(0));
+        }
+    }
+}
