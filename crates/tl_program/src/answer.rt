@@ -6,6 +6,7 @@ ghost use Rattle.tl_cert.specs.Text.{IsWritable};
 ghost use Rattle.tl_table.specs.Layouts.{Fits};
 ghost use Rattle.tl_table.specs.Least.{IsLeastWidth};
 ghost use Rattle.tl_form.specs.Expected.{IsDocumentOf};
+ghost use Rattle.tl_form.specs.Named.{IsLastPlacement};
 ghost use Rattle.tl_table.specs.Sound.{IsSound};
 ghost use Rattle.tl_form.specs.Subjects.{meant};
 ghost use Rattle.tl_program.specs.Answers.{IsPageFile, certificate_file, IsReadBack};
@@ -22,10 +23,14 @@ use std::alloc::{AllocError, Global};
 use std::thread::Threads;
 use tl_base::{Gate, List, MAX_CERTIFICATE_BYTES};
 use tl_cert::{Certificate, write};
-use tl_form::{Subject, bounded_is_between, budget_closes, layout, lowest_is_least, open_spends};
+use tl_form::{
+    Subject, bounded_is_between, budget_closes, layout_with, lowest_is_least, open_spends,
+};
 use tl_html::html;
 use tl_narrow::{certificate_of, narrow_certificate};
+use tl_nested::LaidSections;
 use tl_page::page;
+use tl_problem::Placed;
 use tl_table::{Layout, Table};
 
 /// What is reported of a table, and what is stored for it.
@@ -96,11 +101,21 @@ fn lowest<R: Threads + Sync, G: Gate>(
     requires wide { (least : ℕ) → IsLeastWidth table.now task.now.style least → least ≤ task.now.width }
     ensures { IfOk result (λ answer. IsLaidAs task.now table.now answer answer.report) }
 {
-    let certificate = found(rt, alloc, task, table, budget, gate)?;
-    laid(alloc, task, table, budget, &certificate)
+    let FoundPage {
+        certificate,
+        placed,
+    } = found(rt, alloc, task, table, budget, gate)?;
+    laid(alloc, task, table, budget, &certificate, placed)
 }
 
-/// The certificate of the sections that the search finds on the page.
+/// The certificate of a search, with the placement that was found for its last section.
+#[derive(Drop)]
+pub struct FoundPage {
+    pub certificate: Certificate,
+    pub placed: Placed,
+}
+
+/// The certificate of the sections that the search finds on the page, with the placement of the last.
 pub fn found<R: Threads + Sync, G: Gate>(
     rt: &R,
     alloc: Global,
@@ -108,30 +123,39 @@ pub fn found<R: Threads + Sync, G: Gate>(
     table: &Table,
     budget: u32,
     gate: &G,
-) -> Result<Certificate, AllocError>
+) -> Result<FoundPage, AllocError>
     requires usable { IsUsableTable task.now table.now budget }
     requires wide { (least : ℕ) → IsLeastWidth table.now task.now.style least → least ≤ task.now.width }
-    ensures { IfOk result (IsFound task.now table.now budget) }
+    ensures found { IfOk result (λ page. IsFound task.now table.now budget page.certificate) }
+    ensures placed { IfOk result (λ page. IsLastPlacement table.now task.now.style task.now.width page.certificate.sections
+        page.placed) }
 {
-    let sections = searched(rt, alloc, task, table, budget, gate)?;
-    Ok(certificate_of(alloc, task.style, task.width, budget, sections))
+    let LaidSections { sections, placed } = searched(rt, alloc, task, table, budget, gate)?;
+    let certificate = certificate_of(alloc, task.style, task.width, budget, sections);
+    Ok(FoundPage {
+        certificate,
+        placed,
+    })
 }
 
-/// The page of the layout that the certificate of a search names, with the certificate.
+/// The page of the layout that the certificate of a search names, with the certificate. The placement of
+/// its last section is the one that the search found.
 pub fn laid(
     alloc: Global,
     task: &Task,
     table: &Table,
     budget: u32,
     certificate: &Certificate,
+    placed: Placed,
 ) -> Result<Answer, AllocError>
     requires usable { IsUsableTable task.now table.now budget }
     requires wide { (least : ℕ) → IsLeastWidth table.now task.now.style least → least ≤ task.now.width }
     requires found { IsFound task.now table.now budget certificate.now }
+    requires placed { IsLastPlacement table.now task.now.style task.now.width certificate.now.sections placed }
     ensures laid { IfOk result (λ answer. IsLaidAs task.now table.now answer answer.report) }
     ensures told { IfOk result (λ answer. (taken : ℕ) × (answer.report ≡ report_of task.now.width certificate.now.claim taken)) }
 {
-    let layout = layout(alloc, table, task.style, certificate)?;
+    let layout = layout_with(alloc, table, task.style, certificate, placed)?;
     let width = total_width(task.style, layout.widths.as_slice());
     lowest_is_least();
     bounded_is_between();

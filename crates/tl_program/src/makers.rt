@@ -5,6 +5,7 @@ ghost use Rattle.tl_base.specs.declared.limits.TheConstants.{MAX_BUDGET, MAX_PAG
 ghost use Rattle.tl_astar.specs.Best.{IsBestOutcome};
 ghost use Rattle.tl_branch.specs.Learn.{IsLearnOutcome};
 ghost use Rattle.tl_solve.specs.Plain.{IsPlainOutcome};
+ghost use Rattle.tl_form.specs.Named.{IsLastPlacement};
 ghost use Rattle.tl_table.specs.Least.{IsLeastWidth};
 ghost use Rattle.tl_table.specs.Sound.{IsSound};
 ghost use Rattle.tl_nested.specs.Searched.{AreSectionsOf, AreWritable};
@@ -18,12 +19,12 @@ use crate::task::Task;
 use std::alloc::{AllocError, Global};
 use std::thread::Threads;
 use tl_astar::Best;
-use tl_base::{Gate, List, MAX_PAGE_WIDTH};
+use tl_base::{Gate, MAX_PAGE_WIDTH};
 use tl_branch::Learn;
-use tl_cert::{Certificate, Section};
+use tl_cert::Certificate;
 use tl_command::Search;
 use tl_narrow::{Slim, slimmest};
-use tl_nested::{Make, sections};
+use tl_nested::{LaidSections, Make, laid_sections};
 use tl_solve::Plain;
 use tl_table::Table;
 
@@ -69,7 +70,8 @@ impl Make for MakeLearn {
     }
 }
 
-/// All sections of a certificate of the table, by the search that is named.
+/// All sections of a certificate of the table, by the search that is named, with the placement that was found
+/// for the last of them.
 pub fn searched<R: Threads + Sync, G: Gate>(
     rt: &R,
     alloc: Global,
@@ -77,17 +79,19 @@ pub fn searched<R: Threads + Sync, G: Gate>(
     table: &Table,
     budget: u32,
     gate: &G,
-) -> Result<List<Section>, AllocError>
+) -> Result<LaidSections, AllocError>
     requires sound { IsSound table.now }
     requires narrow { task.now.width ≤ MAX_PAGE_WIDTH }
     requires wide { (least : ℕ) → IsLeastWidth table.now task.now.style least → least ≤ task.now.width }
     requires cuts { budget ≤ MAX_BUDGET }
     requires workers { 1 ≤ task.now.workers }
-    ensures expected { IfOk result (AreSectionsOf (IsOutcomeOf task.now.search task.now.workers budget) table.now task.now.style task.now.width budget) }
-    ensures writable { IfOk result AreWritable }
+    ensures expected { IfOk result (λ laid. AreSectionsOf (IsOutcomeOf task.now.search task.now.workers budget) table.now
+        task.now.style task.now.width budget laid.sections) }
+    ensures writable { IfOk result (λ laid. AreWritable laid.sections) }
+    ensures placed { IfOk result (λ laid. IsLastPlacement table.now task.now.style task.now.width laid.sections laid.placed) }
 {
     match task.search {
-        Search::Plain => sections(
+        Search::Plain => laid_sections(
             rt,
             alloc,
             table,
@@ -98,7 +102,7 @@ pub fn searched<R: Threads + Sync, G: Gate>(
             &MakePlain,
             gate,
         ),
-        Search::Best => sections(
+        Search::Best => laid_sections(
             rt,
             alloc,
             table,
@@ -109,7 +113,7 @@ pub fn searched<R: Threads + Sync, G: Gate>(
             &MakeBest,
             gate,
         ),
-        Search::Learn => sections(
+        Search::Learn => laid_sections(
             rt,
             alloc,
             table,

@@ -7,6 +7,7 @@ ghost use Rattle.tl_command.specs.declared.options.Search.TheVariants as kinds;
 ghost use Rattle.tl_problem.specs.Zones.{IsZone};
 ghost use Rattle.tl_rounds.specs.Fans.{ArePiecesOf, IsFan};
 ghost use Rattle.tl_rounds.specs.Outcomes.{IsRoundsOutcome};
+ghost use Rattle.tl_form.specs.Named.{IsLastPlacement};
 ghost use Rattle.tl_table.specs.Least.{IsLeastWidth};
 ghost use Rattle.tl_table.specs.Sound.{IsSound};
 ghost use Rattle.tl_nested.specs.Searched.{AreSectionsOf, AreWritable};
@@ -18,11 +19,11 @@ ghost use Rattle.tl_program.specs.inner.Steps.{IsUsableTable};
 use crate::task::Task;
 use std::alloc::{AllocError, Global};
 use std::thread::Threads;
-use tl_base::{Gate, List, MAX_BUDGET, MAX_PAGE_WIDTH};
+use tl_base::{Gate, MAX_BUDGET, MAX_PAGE_WIDTH};
 use tl_branch::MakeLearnPiece;
-use tl_cert::{Certificate, Section};
+use tl_cert::Certificate;
 use tl_narrow::{Slim, slimmest};
-use tl_nested::{Make, sections};
+use tl_nested::{LaidSections, Make, laid_sections};
 use tl_problem::{Problem, Zone};
 use tl_rounds::{Rounds, pieces_at_once};
 use tl_solve::Piece;
@@ -48,7 +49,8 @@ impl<'f, F: Fn(&Problem, &[Zone], u32, u32) -> Result<Vec<Piece>, AllocError> + 
     }
 }
 
-/// All sections of a certificate of the table, by searches in rounds.
+/// All sections of a certificate of the table, by searches in rounds, with the placement that was found for
+/// the last of them.
 pub fn sections_in_rounds<R: Threads + Sync, G: Gate>(
     rt: &R,
     alloc: Global,
@@ -56,15 +58,16 @@ pub fn sections_in_rounds<R: Threads + Sync, G: Gate>(
     table: &Table,
     budget: u32,
     gate: &G,
-) -> Result<List<Section>, AllocError>
+) -> Result<LaidSections, AllocError>
     requires sound { IsSound table.now }
     requires narrow { task.now.width ≤ MAX_PAGE_WIDTH }
     requires wide { (least : ℕ) → IsLeastWidth table.now task.now.style least → least ≤ task.now.width }
     requires cuts { budget ≤ MAX_BUDGET }
     requires workers { 1 ≤ task.now.workers }
-    ensures expected { IfOk result (AreSectionsOf (IsOutcomeOf kinds.Rounds task.now.workers budget) table.now task.now.style
-        task.now.width budget) }
-    ensures writable { IfOk result AreWritable }
+    ensures expected { IfOk result (λ laid. AreSectionsOf (IsOutcomeOf kinds.Rounds task.now.workers budget) table.now
+        task.now.style task.now.width budget laid.sections) }
+    ensures writable { IfOk result (λ laid. AreWritable laid.sections) }
+    ensures placed { IfOk result (λ laid. IsLastPlacement table.now task.now.style task.now.width laid.sections laid.placed) }
 {
     let fan = |problem: &Problem, zones: &[Zone], best: u32, quota: u32| -> Result<
         Vec<Piece>,
@@ -103,20 +106,21 @@ fn sections_with<
     budget: u32,
     fan: &F,
     gate: &G,
-) -> Result<List<Section>, AllocError>
+) -> Result<LaidSections, AllocError>
     requires fan { IsFan F.Fn fan.now }
     requires sound { IsSound table.now }
     requires narrow { task.now.width ≤ MAX_PAGE_WIDTH }
     requires wide { (least : ℕ) → IsLeastWidth table.now task.now.style least → least ≤ task.now.width }
     requires cuts { budget ≤ MAX_BUDGET }
     requires workers { 1 ≤ task.now.workers }
-    ensures expected { IfOk result (AreSectionsOf (IsOutcomeOf kinds.Rounds task.now.workers budget) table.now task.now.style
-        task.now.width budget) }
-    ensures writable { IfOk result AreWritable }
+    ensures expected { IfOk result (λ laid. AreSectionsOf (IsOutcomeOf kinds.Rounds task.now.workers budget) table.now
+        task.now.style task.now.width budget laid.sections) }
+    ensures writable { IfOk result (λ laid. AreWritable laid.sections) }
+    ensures placed { IfOk result (λ laid. IsLastPlacement table.now task.now.style task.now.width laid.sections laid.placed) }
 {
     let workers = task.workers;
     let maker = MakeRounds { workers, fan };
-    sections(
+    laid_sections(
         rt, alloc, table, task.style, task.width, budget, workers, &maker, gate,
     )
 }

@@ -26,7 +26,7 @@ use tl_command::Search;
 use tl_demo::{DEMO_WIDTH, demo_fits, demo_text};
 use tl_form::{Due, Subject};
 use tl_narrow::certificate_of;
-use tl_nested::problem_at;
+use tl_nested::{LaidSections, problem_at};
 use tl_read::{Source, read};
 use tl_table::Table;
 use tl_verify::verify;
@@ -75,7 +75,10 @@ fn summary_of<R: Threads + Sync, G: Gate>(
     ensures { IfOk result (IsSummaryOf table.now) }
 {
     let task = task();
-    let sections = searched(rt, alloc, &task, table, DEMO_BUDGET, gate)?;
+    let LaidSections {
+        sections,
+        placed: _placed,
+    } = searched(rt, alloc, &task, table, DEMO_BUDGET, gate)?;
     let certificate = certificate_of(alloc, task.style, task.width, DEMO_BUDGET, sections);
     // The certificate is valid, so it is refused only where memory runs out.
     if verify(

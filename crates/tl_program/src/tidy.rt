@@ -15,7 +15,7 @@ ghost use Rattle.tl_program.specs.inner.Certified.{IsFound};
 ghost use Rattle.tl_program.specs.inner.Steps.{GoesOn, IsUsableTable};
 ghost use Rattle.tl_program.specs.inner.Tidying.{AreChosenAmong, AreChosenIn, IsTidiedAs, laid_kept};
 
-use crate::answer::{Answer, answer_to, found, laid};
+use crate::answer::{Answer, FoundPage, answer_to, found, laid};
 use crate::lay::deliver_answer;
 use crate::makers::slimmest_by;
 use crate::narrow::{SlimAnswer, deliver_texts, slim_texts};
@@ -115,7 +115,10 @@ fn tidied_on<R: Threads + Sync, G: Gate>(
     requires wide { (least : ℕ) → IsLeastWidth table.now task.now.style least → least ≤ task.now.width }
     ensures { IfOk result (IsTidiedAs (asked_by ask.now) task.now table.now) }
 {
-    let certificate = found(rt, alloc, task, table, budget, gate)?;
+    let FoundPage {
+        certificate,
+        placed,
+    } = found(rt, alloc, task, table, budget, gate)?;
     match certificate.claim {
         Claim::Lowest(height) => {
             let answer = trimmed(
@@ -132,11 +135,11 @@ fn tidied_on<R: Threads + Sync, G: Gate>(
             Ok(TidyAnswer::Trimmed(answer))
         }
         Claim::Bounded(_, _) => {
-            let answer = laid(alloc, task, table, budget, &certificate)?;
+            let answer = laid(alloc, task, table, budget, &certificate, placed)?;
             Ok(TidyAnswer::Early(answer))
         }
         Claim::Narrow(_) => {
-            let answer = laid(alloc, task, table, budget, &certificate)?;
+            let answer = laid(alloc, task, table, budget, &certificate, placed)?;
             Ok(TidyAnswer::Early(answer))
         }
     }

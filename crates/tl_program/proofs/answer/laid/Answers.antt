@@ -7,7 +7,7 @@ use Rattle.tl_cert.specs.declared.certificate.Certificate.{Certificate}
 use Rattle.tl_cert.specs.declared.certificate.Claim.{Claim}
 use Rattle.tl_cert.specs.Text.{IsWritable}
 use Rattle.tl_table.specs.Layouts.{Fits}
-use Rattle.tl_form.specs.Named.{IsNamed}
+use Rattle.tl_form.specs.Named.{IsLastPlacement, IsNamed}
 use Rattle.tl_form.specs.Valid.{IsValid}
 use Rattle.tl_form.specs.ValidLaws.{HasHeight}
 use Rattle.tl_nested.specs.Searched.{AreSectionsOf}
@@ -18,8 +18,8 @@ use Rattle.tl_narrow.proofs.Certifying.{claimed_height, valid, writable}
 use Rattle.tl_program.proofs.Laying.{few_columns, answered}
 use Rattle.tl_program.proofs.answer.laid.Goals as goal
 
-pub layout-requires-clause-written : goal.layout-requires-clause-written
-layout-requires-clause-written c =
+pub layout_with-requires-clause-written : goal.layout_with-requires-clause-written
+layout_with-requires-clause-written c =
     let task = c.args.task.now in
     subst IsWritable (sym c.requires.found.made)
     (writable (IsOutcomeOf task.search task.workers c.args.budget) c.args.table.now task.style task.width c.args.budget
@@ -27,13 +27,19 @@ layout-requires-clause-written c =
     c.requires.found.expected c.requires.found.writable c.requires.wide
     c.requires.usable.range.some c.requires.usable.range.narrow c.requires.usable.cuts)
 
-pub layout-requires-clause-valid : goal.layout-requires-clause-valid
-layout-requires-clause-valid c =
+pub layout_with-requires-clause-valid : goal.layout_with-requires-clause-valid
+layout_with-requires-clause-valid c =
     let task = c.args.task.now in
     subst (λ (made : Certificate). IsValid c.args.table.now task.style made.width made.budget made)
     (sym c.requires.found.made)
     (valid (IsOutcomeOf task.search task.workers c.args.budget) c.args.table.now task.style task.width c.args.budget c.requires.found.sections
     c.requires.found.expected c.requires.found.writable c.requires.wide)
+
+pub layout_with-requires-clause-placed : goal.layout_with-requires-clause-placed
+layout_with-requires-clause-placed c =
+    subst (λ (width : ℕ). IsLastPlacement c.args.table.now c.args.task.now.style width c.args.certificate.now.sections
+    c.args.placed)
+    (sym (ap (λ (made : Certificate). made.width) c.requires.found.made)) c.requires.placed
 
 pub total_width-width-requires : goal.total_width-width-requires
 total_width-width-requires c =

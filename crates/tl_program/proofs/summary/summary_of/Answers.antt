@@ -37,7 +37,7 @@ made_of task certificate sections same made = made ∙ ap (λ (t : Task). certif
 
 pub verify-requires-clause-written : goal.verify-requires-clause-written
 verify-requires-clause-written g c = λ lifetimes outlives.
-    let sections = c.in_ok-sections.sections in
+    let sections = c.in_ok-sections.field-0.sections in
     let are = sections_are c.args.table.now c.task-task.result sections c.task-task.ensures c.in_ok-sections.ensures.expected in
     let made = made_of c.task-task.result c.certificate_of-certificate.result sections c.task-task.ensures
     c.certificate_of-certificate.ensures in
@@ -51,7 +51,7 @@ overflow_cast-result g c = omega (arith, c.len.ensures, c.requires.cells c.args.
 
 pub count_after-requires-clause-good : goal.count_after-requires-clause-good
 count_after-requires-clause-good g c =
-    let sections = c.in_ok-sections.sections in
+    let sections = c.in_ok-sections.field-0.sections in
     let are = sections_are c.args.table.now c.task-task.result sections c.task-task.ensures c.in_ok-sections.ensures.expected in
     let made = made_of c.task-task.result c.certificate_of-certificate.result sections c.task-task.ensures
     c.certificate_of-certificate.ensures in
@@ -61,7 +61,7 @@ count_after-requires-clause-good g c =
 
 pub returns : goal.returns
 returns g c =
-    let sections = c.in_ok-sections.sections in
+    let sections = c.in_ok-sections.field-0.sections in
     let are = sections_are c.args.table.now c.task-task.result sections c.task-task.ensures c.in_ok-sections.ensures.expected in
     let made = made_of c.task-task.result c.certificate_of-certificate.result sections c.task-task.ensures
     c.certificate_of-certificate.ensures in
