@@ -1,7 +1,8 @@
 #!/usr/bin/env bash
 # How long `check` takes with the start of the process, beside the `lay` that wrote the certificate. Builds
 # the program where it is missing. Prints for each case the bytes of the certificate, the lines of its logs,
-# and the milliseconds of processor time of both, which other work on the machine changes little. The files
+# and the milliseconds of processor time of both, which other work on the machine changes little, and which part of
+# the layout's the check takes. The files
 # are the examples and those of files.sh. Fails where a check ends with another status than its `lay`, or
 # takes longer by more than 2 ms, within which two starts of one process differ.
 #
@@ -41,8 +42,9 @@ compare() {
     laid=$milliseconds
     first=$status
     measure "$program" check "$width" "$files/$name.html" "$files/cert"
-    printf '%-15s %4d  status %d %d  %6d bytes %4d lines   lay %4d ms   check %4d ms\n' "$name" "$width" "$first" "$status" \
+    printf '%-15s %4d  status %d %d  %6d bytes %4d lines   lay %4d ms   check %4d ms' "$name" "$width" "$first" "$status" \
         "$(wc -c <"$files/cert")" "$(awk '/(chain|cycle|fired|area)$/ && !/^chain/' "$files/cert" | wc -l)" "$laid" "$milliseconds"
+    awk -v check="$milliseconds" -v lay="$laid" 'BEGIN { if (lay) printf ", %.2f of it", check / lay; print "" }'
     if [ "$first" != "$status" ] || [ "$milliseconds" -gt $((laid + 2)) ]; then failed=1; fi
 }
 

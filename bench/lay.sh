@@ -1,7 +1,8 @@
 #!/usr/bin/env bash
 # How long `lay` takes with the start of the process, and how much memory, beside w3m's (Debian package
 # `w3m`) in the same run. w3m estimates column widths; it proves nothing. Builds the program where it is
-# missing. Prints for each file its status, lines, milliseconds and megabytes, then those of w3m.
+# missing. Prints the machine; for each file its status and lines, the milliseconds of the middle one of five
+# runs and the megabytes of the last, those of w3m, and which part of w3m's time and memory they are.
 # The files are those of files.sh, at these widths in columns: first 7, demo 60, column 80, rows 120,
 # columns 300, nested 80, mebibyte 80, refused 80. At last the slowest of `demo 0` to `demo 19`; fails where
 # one of them does not close.
@@ -14,23 +15,37 @@ trap 'rm -rf "$files"' EXIT
 
 "$here/files.sh" "$files"
 
-# Prints how long a command takes and how much memory, after its status and the lines that it wrote.
+# Sets `microseconds` to those of the middle one of five runs of a command, and `status`, `lines` and `kilobytes` to
+# those of the last.
 measure() {
-    local begun status=0 kilobytes milliseconds
-    begun=$(date +%s%N)
-    /usr/bin/time -f %M -o "$files/memory" "$@" >"$files/out" 2>/dev/null || status=$?
-    milliseconds=$((($(date +%s%N) - begun) / 1000000))
+    local begun
+    for _ in 1 2 3 4 5; do
+        begun=$(date +%s%N)
+        status=0
+        /usr/bin/time -f %M -o "$files/memory" "$@" >"$files/out" 2>/dev/null || status=$?
+        echo $((($(date +%s%N) - begun) / 1000))
+    done >"$files/times"
+    microseconds=$(sort -n "$files/times" | sed -n 3p)
+    lines=$(wc -l <"$files/out")
     kilobytes=$(tail -n 1 "$files/memory")
-    printf '  status %d, %6d lines, %6d ms, %4d MB' "$status" "$(wc -l <"$files/out")" "$milliseconds" $((kilobytes / 1024))
 }
 
+# Prints microseconds as milliseconds and kilobytes as megabytes.
+in_units() {
+    awk -v time="$1" -v memory="$2" 'BEGIN { printf "%7.1f ms %5.1f MB", time / 1000, memory / 1024 }'
+}
+
+echo "$(nproc) processors: $(sed -n 's/^model name[^:]*: //p' /proc/cpuinfo | head -n 1); $(w3m -version 2>/dev/null | cut -d, -f1 || echo 'no w3m')"
 for case in first:7 demo:60 column:80 rows:120 columns:300 nested:80 mebibyte:80 refused:80; do
     name=${case%:*} width=${case#*:}
-    printf '%-9s' "$name"
     measure "$program" lay "$width" "$files/$name.html" /dev/stdout
+    printf '%-9s  status %d %6d lines %s' "$name" "$status" "$lines" "$(in_units "$microseconds" "$kilobytes")"
     if command -v w3m >/dev/null; then
-        printf '   w3m:'
+        laid=$microseconds held=$kilobytes
         measure w3m -dump -cols "$width" -T text/html "$files/$name.html"
+        printf '   w3m: %s   ' "$(in_units "$microseconds" "$kilobytes")"
+        awk -v time="$laid" -v memory="$held" -v of_time="$microseconds" -v of_memory="$kilobytes" \
+            'BEGIN { printf "%.2f of its time, %.2f of its memory", time / of_time, memory / of_memory }'
     fi
     echo
 done
