@@ -1,10 +1,10 @@
 #!/usr/bin/env bash
 # How long `check` takes with the start of the process, beside the `lay` that wrote the certificate. Builds
 # the program where it is missing. Prints for each case the bytes of the certificate, the lines of its logs,
-# and the milliseconds of processor time of both, which other work on the machine changes little, and which part of
-# the layout's the check takes. The files
-# are the examples and those of files.sh. Fails where a check ends with another status than its `lay`, or
-# takes longer by more than 2 ms, within which two starts of one process differ.
+# and the milliseconds of processor time of both, which other work on the machine changes little, and which
+# part of that of `lay` the check takes. The files are the examples and those of files.sh. Fails where a check
+# ends with another status than its `lay`, or takes longer by more than 2 ms, within which two starts of one
+# process differ.
 #
 # At last the log of 100,001 lines that the plain search leaves of the table of number 0 on 120 columns, with
 # 50,000 cuts: how long it takes to check, beside the search. The log comes last in a check, so its time is
