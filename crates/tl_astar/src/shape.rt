@@ -129,21 +129,17 @@ fn cells_of_spans(
     cells: &[Cell],
 ) -> Result<Vec<Vec<usize>>, AllocError> {
     let mut lists = Vec::new(alloc);
-    for span in spans {
-        lists.push(cells_of_span(alloc, *span, cells)?)?;
+    for _ in spans {
+        lists.push(Vec::new(alloc))?;
     }
-    Ok(lists)
-}
-
-/// The numbers of the cells of a span.
-fn cells_of_span(alloc: Global, span: Span, cells: &[Cell]) -> Result<Vec<usize>, AllocError> {
-    let mut numbers = Vec::new(alloc);
-    for number in 0..cells.len() {
-        if cells[number].left == span.left && cells[number].right == span.right {
-            numbers.push(number)?;
+    // The spans stand by left, then right.
+    for (number, cell) in cells.iter().enumerate() {
+        let span = spans.partition_point(|span| (span.left, span.right) < (cell.left, cell.right));
+        if let Some(list) = lists.get_mut(span) {
+            list.push(number)?;
         }
     }
-    Ok(numbers)
+    Ok(lists)
 }
 
 /// Each row, and the rows of each cell of more than one, in order.

@@ -4,7 +4,7 @@ use crate::shape::{Shape, number_at};
 use std::alloc::{AllocError, Global};
 use tl_problem::Range;
 
-/// More than any page is wide.
+/// More than any page is wide: what stands where there is no limit yet.
 const FAR: i32 = 1_000_000;
 
 /// For each two places of columns, `a` and `b`, the greatest `x_b - x_a` that the limits so far leave,
@@ -55,9 +55,10 @@ impl Spread {
             return;
         }
         for i in 0..self.side {
-            let to_b = self.entry(i, a as usize).saturating_add(most);
+            let to_a = self.entry(i, a as usize);
+            let to_b = to_a.saturating_add(most);
             // Where `x_b - x_i` stays, so does each `x_j - x_i`, as they are the tightest limits already.
-            if to_b < self.entry(i, b as usize) {
+            if to_a < FAR && to_b < self.entry(i, b as usize) {
                 self.limit_row(i, b as usize, to_b);
             }
         }
@@ -66,10 +67,11 @@ impl Spread {
     /// Makes each `x_j - x_i` at most `to_b` and `x_j - x_b`.
     fn limit_row(&mut self, i: usize, b: usize, to_b: i32) {
         for j in 0..self.side {
-            let around = to_b.saturating_add(self.entry(b, j));
+            let on = self.entry(b, j);
+            let around = to_b.saturating_add(on);
             let place = i.saturating_mul(self.side).saturating_add(j);
             if let Some(apart) = self.most.get_mut(place) {
-                if around < *apart {
+                if on < FAR && around < *apart {
                     *apart = around;
                 }
             }
@@ -91,13 +93,15 @@ pub(crate) fn page_spread(alloc: Global, shape: &Shape) -> Result<Spread, AllocE
         .saturating_sub(2 * shape.style.edge())
         .saturating_add(shape.style.gap());
     let mut spread = Spread::new(alloc, (shape.cols as usize).saturating_add(1))?;
-    spread.limit(0, shape.cols, signed(page));
-    for column in 0..shape.cols {
-        spread.limit(column.saturating_add(1), column, gap.saturating_neg());
-    }
+    // In this order the fewest limits change one that was there: a span keeps its columns a gap apart, and
+    // only the page keeps them near each other.
     for span in 0..shape.spans.len() {
         limit_first(shape, span, 0, &mut spread);
     }
+    for column in 0..shape.cols {
+        spread.limit(column.saturating_add(1), column, gap.saturating_neg());
+    }
+    spread.limit(0, shape.cols, signed(page));
     Ok(spread)
 }
 

@@ -1,14 +1,18 @@
 -- Cells in the order in which they begin: each cell is there once, and nothing else.
-use Rattle.std.proofs.Common.{◌≡◌, ℕ, ◌+◌, ◌<◌, ◌≤◌, zero, suc, List, [], ◌∷◌, ◌++◌, length, get_or, take, sum, refl, sym, ap}
-use Rattle.std.proofs.Common.{◌∙◌, subst, arith}
+use Rattle.std.proofs.Common.{◌≡◌, ℕ, ◌+◌, ◌-◌, ◌<◌, ◌≤◌, zero, suc, true, false, nat_le, nat_lt, List, [], ◌∷◌, ◌++◌, inl, inr}
+use Rattle.std.proofs.Common.{length, get_or, take, drop, sum, refl, sym, ap, ◌∙◌, subst, arith}
 use Rattle.std.specs.List.{All, Contains, sum_by}
-use Rattle.std.proofs.lemmas.List.{take_more, take_all}
+use Rattle.std.specs.List.Sorted.{IsPartitionPoint}
+use Rattle.std.proofs.lemmas.Bool.{cases_lt}
+use Rattle.std.proofs.lemmas.List.{take_more, take_all, get_or-take, get_or-drop, length-take, length-drop}
+use Rattle.std.proofs.lemmas.List.Elements.{Contains-get_or}
 use Rattle.std.proofs.lemmas.List.Sorted.{All-permutation, Contains-permutation, sum_by-IsPermutation, length_permutation}
 use Rattle.std.proofs.lemmas.List.Sums.{sum_by_push, sum_by_more}
+use Rattle.tl_base.proofs.Decreasing.{test_le, lt_test}
 use Rattle.tl_problem.specs.declared.axis.Axis.{Axis}
 use Rattle.tl_problem.specs.declared.axis.Turn.{Turn}
 use Rattle.tl_problem.specs.declared.cell.Cell.{Cell}
-use Rattle.tl_problem.specs.inner.Axes.{start_of, turn, turns_from, IsOrder}
+use Rattle.tl_problem.specs.inner.Axes.{start_of, turn, turns_from, IsOrder, HaveAllAt}
 use Rattle.tl_problem.specs.inner.Demands.{cell_at}
 
 turns_from-push : (axis : Axis) (n : ℕ) (cells : List Cell) (cell : Cell) →
@@ -93,3 +97,43 @@ module _ (axis : Axis) (cells : List Cell) (order : List Turn) (is : IsOrder axi
             (turn (start_of axis (get_or cells k d)) k) in
             let more = sum_by_more (λ n. n) ns k 0 (omega arith) in
             rw next (omega (arith, turns, pushed, more, rest))
+
+-- the turns that start at one place, among turns in order: of those that do not start before it, the ones that do not start
+-- after it
+module _ (place : ℕ) (turns : List Turn) (before count : ℕ)
+    (low : IsPartitionPoint (λ t. nat_lt t.start place ≡ true) (λ t. nat_lt t.start place ≡ false) turns before)
+    (high : IsPartitionPoint (λ t. nat_le t.start place ≡ true) (λ t. nat_le t.start place ≡ false) (drop before turns) count) where
+  between-some : All (λ t. Contains turns t) (take count (drop before turns))
+  between-some k d inside =
+      let size = length-take count (drop before turns) in
+      let rest = length-drop before turns in
+      let at = get_or-take count (drop before turns) k d (omega (arith, size)) ∙ get_or-drop before turns k d in
+      subst (Contains turns) (sym at) (Contains-get_or turns (before + k) d (omega (arith, size, rest)))
+
+  between-each : (t : Turn) → Contains turns t → t.start ≡ place → Contains (take count (drop before turns)) t
+  between-each t (k, inside, is) starts =
+      let size = length-take count (drop before turns) in
+      let rest = length-drop before turns in
+      let start : (get_or turns k t).start ≡ place = ap (λ x. x.start) is ∙ starts in
+      let after : before ≤ k = elim (cases_lt k before) [
+        | inr not_before ↦ omega arith
+        | inl is_before ↦ absurd (omega (arith, lt_test (low.0 k t (omega arith) is_before), start))
+      ] in
+      let there : before + (k - before) ≡ k = omega (arith, after) in
+      let at : get_or (drop before turns) (k - before) t ≡ t = get_or-drop before turns (k - before) t
+      ∙ ap (λ i. get_or turns i t) there ∙ is in
+      let inner : k - before < length (drop before turns) = omega (arith, rest, after, inside) in
+      let near : k - before < count = elim (cases_lt (k - before) count) [
+        | inl less ↦ less
+        | inr beyond ↦
+            let begins = ap (λ x. x.start) at ∙ starts in
+            let both : true ≡ false = sym (test_le (omega (arith, begins))) ∙ high.1 (k - before) t (omega arith) inner in
+            absurd (cc)
+      ] in (
+        k - before,
+        omega (arith, size, inner, near),
+        get_or-take count (drop before turns) (k - before) t near ∙ at,
+      )
+
+  pub all-at : HaveAllAt turns place (take count (drop before turns))
+  all-at = record { some = between-some; each = between-each }

@@ -4,7 +4,7 @@ use Rattle.std.proofs.Common.{length}
 use Rattle.std.proofs.Common.{refl, sym, ap, ◌∙◌, arith}
 use Rattle.std.proofs.lemmas.Int.{ints}
 use Rattle.std.proofs.lemmas.Bool.{cases_eq, cases_lt}
-use Rattle.std.proofs.lemmas.List.{get_or_past}
+use Rattle.std.proofs.lemmas.List.{get_or_default, get_or_past}
 use Rattle.std.proofs.lemmas.List.Elements.{Contains-get_or}
 use Rattle.tl_base.specs.declared.limits.TheConstants.{MAX_PAGE_WIDTH}
 use Rattle.tl_base.specs.Style.{gap_of, edge_of}
@@ -18,7 +18,7 @@ use Rattle.tl_base.specs.Sizes.{position, room}
 use Rattle.tl_problem.specs.Problem.{ProblemModel, cell_width, total_width}
 use Rattle.tl_problem.specs.Layouts.{WithinPage}
 use Rattle.tl_problem.specs.Sound.{IsSound}
-use Rattle.tl_problem.specs.Spans.{spans_of, page_room}
+use Rattle.tl_problem.specs.Spans.{span, spans_of, least_width, page_room}
 use Rattle.tl_problem.specs.Zones.{span_at, classes_at, range_at, first_in_class, last_in_class, span_width, IsWidthOf, InZone}
 use Rattle.tl_problem.specs.Bounds.{HasNoWidths, IsGreatestRoom}
 use Rattle.tl_problem.specs.Placements.{AreLeast}
@@ -27,7 +27,8 @@ use Rattle.tl_problem.specs.inner.Needs.{IsLeastRoom}
 use Rattle.tl_problem.specs.inner.Demands.{cell_at, no_cell}
 use Rattle.tl_problem.specs.inner.Constraints.{StandApart, AreNear, PageUpto, AddsFact, HasFirst, HasLast, AddsRanges}
 use Rattle.tl_base.proofs.SizeLaws.{total-position, room-position, position-mono, position-gap}
-use Rattle.tl_problem.proofs.SpanLaws.{room-in_page, least_width-within, classes-first, classes-cases}
+use Rattle.tl_problem.proofs.SpanLaws.{room-in_page, least_width-le, least_width-within, classes-first, classes-cases}
+use Rattle.tl_problem.proofs.SpanLaws.{has_span-from, spans-Contains}
 use Rattle.tl_problem.proofs.ZoneLaws.{span-within}
 use Rattle.tl_problem.proofs.NeedLemmas.{All-from_numbers}
 use Rattle.tl_problem.proofs.WorkLemmas.{left-from, left-room, left-position}
@@ -42,17 +43,17 @@ position-start gap widths = omega arith
 
 -- ---- the page
 
-pub page-satisfiable : (problem : ProblemModel) (columns cells : ℕ) (matrix : MarkedBounds) →
-    PageUpto problem columns cells matrix →
+pub page-satisfiable : (problem : ProblemModel) (columns spans : ℕ) (matrix : MarkedBounds) →
+    PageUpto problem columns spans matrix →
     IsSatisfiable matrix.bounds
-page-satisfiable problem columns cells matrix h = let fits = h.sound.fits in
+page-satisfiable problem columns spans matrix h = let fits = h.sound.fits in
     (places problem fits.0, (h.whole fits.0 fits.1).satisfies)
 
 module _ (problem : ProblemModel) (k : ℕ) (old new : MarkedBounds) where
-  pub PageUpto-gap : k < problem.cols → PageUpto problem k 0 old →
+  pub PageUpto-gap : (spans : ℕ) → k < problem.cols → PageUpto problem k spans old →
       AddsFact old new (λ x. StandApart x k (k + 1) (gap_of problem.style)) →
-      PageUpto problem (k + 1) 0 new
-  PageUpto-gap inside h adds = record {
+      PageUpto problem (k + 1) spans new
+  PageUpto-gap spans inside h adds = record {
     sound = h.sound;
     variables = adds.variables ∙ h.variables;
     marks = adds.marks ∙ h.marks;
@@ -69,12 +70,12 @@ module _ (problem : ProblemModel) (k : ℕ) (old new : MarkedBounds) where
       | inl same ↦ rw same (adds.adds x meets)
       | inr apart ↦ h.gaps x (adds.keeps x meets) j (omega arith)
     ];
-    rooms = λ x meets j below. absurd (omega arith);
+    rooms = λ x meets j below. h.rooms x (adds.keeps x meets) j below;
   }
 
-  pub PageUpto-room : k < length problem.cells → PageUpto problem problem.cols k old →
-      AddsFact old new (λ x. StandApart x (cell_at problem.cells k).left (cell_at problem.cells k).right
-      (first_width (cell_at problem.cells k).low + gap_of problem.style)) → PageUpto problem problem.cols (k + 1) new
+  pub PageUpto-room : k < length (spans_of problem) → PageUpto problem 0 k old →
+      AddsFact old new (λ x. StandApart x (span_at problem k).left (span_at problem k).right
+      (first_in_class problem k 0 + gap_of problem.style)) → PageUpto problem 0 (k + 1) new
   PageUpto-room inside h adds = record {
     sound = h.sound;
     variables = adds.variables ∙ h.variables;
@@ -82,22 +83,41 @@ module _ (problem : ProblemModel) (k : ℕ) (old new : MarkedBounds) where
     none_held = adds.held ∙ h.none_held;
     whole = λ widths page.
         let before = h.whole widths page in
-        let cell = cell_at problem.cells k in
-        let ahead = (h.sound.cells k no_cell inside).columns.0 in
-        let step = room-position (gap_of problem.style) widths cell.left cell.right ahead in
+        let columns = span_at problem k in
+        let ahead = (span-within problem h.sound k inside).0 in
+        let step = room-position (gap_of problem.style) widths columns.left columns.right ahead in
+        let least = least_width-within problem columns widths page in
         record {
           columns = before.columns;
           satisfies = adds.all (places problem widths) before.satisfies
-              (omega (arith, ints, step, page.cells k no_cell inside));
+              (omega (arith, ints, step, least, classes-first problem columns 0));
         };
-    gaps = λ x meets j below. h.gaps x (adds.keeps x meets) j below;
+    gaps = λ x meets j below. absurd (omega arith);
     rooms = λ x meets j below. elim (cases_eq j k) [
       | inl same ↦ rw same (adds.adds x meets)
       | inr apart ↦ h.rooms x (adds.keeps x meets) j (omega arith)
     ];
   }
 
-module _ (problem : ProblemModel) (old new : MarkedBounds) (h : PageUpto problem problem.cols (length problem.cells) old)
+-- a cell has its least width where its span has that of its first class
+cell-apart : (problem : ProblemModel) → IsSound problem → (x : ℕ → ℤ) →
+    ((s : ℕ) → s < length (spans_of problem) →
+    StandApart x (span_at problem s).left (span_at problem s).right (first_in_class problem s 0 + gap_of problem.style)) →
+    (k : ℕ) → k < length problem.cells →
+    StandApart x (cell_at problem.cells k).left (cell_at problem.cells k).right
+    (first_width (cell_at problem.cells k).low + gap_of problem.style)
+cell-apart problem sound x rooms k within =
+    let cell = cell_at problem.cells k in
+    let has = Contains-get_or problem.cells k no_cell within in
+    let (s, inside, is) = spans-Contains problem sound cell has in
+    let here : span_at problem s ≡ span cell.left cell.right = get_or_default (spans_of problem) s _ _ inside ∙ is in
+    let least = least_width-le problem (span cell.left cell.right) cell has (has_span-from (span cell.left cell.right) cell refl
+    refl) in
+    let first = ap (λ columns. least_width problem columns) here in
+    let room = rw here at (rooms s inside) in
+    omega (arith, ints, room, least, classes-first problem (span cell.left cell.right) 0)
+
+module _ (problem : ProblemModel) (old new : MarkedBounds) (h : PageUpto problem problem.cols (length (spans_of problem)) old)
     (adds : AddsFact old new
     (λ x. AreNear x 0 problem.cols (problem.width + gap_of problem.style - 2 * edge_of problem.style))) where
   total-within : (widths : List ℕ) → length widths ≡ problem.cols →
@@ -137,7 +157,8 @@ module _ (problem : ProblemModel) (old new : MarkedBounds) (h : PageUpto problem
           page = total-within widths left.columns (omega (arith, ints, ends, start));
           cells = All-from_numbers (λ cell. first_width cell.low ≤ cell_width problem widths cell) problem.cells (λ k within.
               let cell = cell_at problem.cells k in
-              let apart = h.rooms (places problem widths) (adds.keeps (places problem widths) left.satisfies) k within in
+              let apart = cell-apart problem h.sound (places problem widths)
+              (h.rooms (places problem widths) (adds.keeps (places problem widths) left.satisfies)) k within in
               let step = room-position (gap_of problem.style) widths cell.left cell.right
               (h.sound.cells k no_cell within).columns.0 in
               omega (arith, ints, apart, step));
@@ -384,19 +405,6 @@ class-small problem sound s class inside within =
     ]
 
 -- a cell's least width is within the page
-pub first-small : (problem : ProblemModel) → IsSound problem → (k : ℕ) → k < length problem.cells →
-    first_width (cell_at problem.cells k).low ≤ MAX_PAGE_WIDTH
-first-small problem sound k within =
-    let page = sound.fits in
-    let cell = cell_at problem.cells k in
-    let is = sound.cells k no_cell within in
-    omega (
-      arith,
-      page.1.cells k no_cell within,
-      room-small problem sound page.0 page.1 cell.left cell.right is.columns.0
-          is.columns.1,
-    )
-
 -- ---- what a zone's ranges leave
 
 module _ (problem : ProblemModel) (zone : List Range) (marks : ℕ) (held : List Bounds) (base : Bounds) (new : MarkedBounds)

@@ -1,10 +1,13 @@
 -- The test for a sound problem: `low` is nowhere above `high` if it is not where the steps of `high` begin, and the least
 -- places of the columns tell whether some widths are within the page.
-use Rattle.std.proofs.Common.{◌≡◌, ℕ, ◌+◌, ◌-◌, ◌*◌, ◌<◌, ◌≤◌, zero, suc, List, [], ◌∷◌, inl, inr, max, length, get_or, set, refl}
-use Rattle.std.proofs.Common.{sym, ap, ◌∙◌, arith}
+use Rattle.std.proofs.Common.{◌≡◌, ◌≢◌, ℕ, ◌+◌, ◌-◌, ◌*◌, ◌/◌, ◌%◌, ◌<◌, ◌≤◌, zero, suc, List, [], ◌∷◌, ◌⊎◌, inl, inr, max, length}
+use Rattle.std.proofs.Common.{Option, Some, None, unwrap_or, replicate, get_or, set, refl, sym, ap, ◌∙◌, arith}
 use Rattle.std.specs.List.{All}
+use Rattle.std.specs.Option.{IsSomeAnd}
 use Rattle.std.proofs.lemmas.Bool.{cases_eq, cases_lt}
-use Rattle.std.proofs.lemmas.List.{get_or-set_same, get_or-set_other}
+use Rattle.std.proofs.lemmas.List.{get_or-set_same, get_or-set_other, length-set, get_or-replicate, get_or_past, length-replicate}
+use Rattle.std.proofs.lemmas.Nat.{div-mul-add, mod-mul-add}
+use Rattle.tl_base.specs.declared.limits.TheConstants.{MAX_COLUMNS}
 use Rattle.tl_base.specs.Style.{gap_of, edge_of}
 use Rattle.tl_base.specs.declared.style.Style.{Style}
 use Rattle.tl_base.specs.declared.steps.Config.{Config}
@@ -15,8 +18,9 @@ use Rattle.tl_problem.specs.Problem.{ProblemModel, cell_width}
 use Rattle.tl_problem.specs.Layouts.{WithinPage}
 use Rattle.tl_problem.specs.inner.Demands.{cell_at, rises, no_cell}
 use Rattle.tl_problem.specs.inner.Least.{step_at}
-use Rattle.tl_problem.specs.inner.Soundness.{IsNowhereAbove, FitsPageWidth, IsNextPlace, AreLeastPlaces}
-use Rattle.tl_problem.specs.inner.Spanning.{IsInGrid}
+use Rattle.tl_problem.specs.declared.sound.TheConstants.{PAIRS, PLACES}
+use Rattle.tl_problem.specs.inner.Soundness.{IsNowhereAbove, FitsPageWidth, AreWidest, IsNextPlace, AreLeastPlaces}
+use Rattle.tl_problem.specs.inner.Spanning.{IsInGrid, slot_of}
 use Rattle.tl_problem.proofs.AreaSteps.{height-at-step, height-between}
 use Rattle.tl_problem.proofs.DemandLemmas.{rises-length, rises-sum}
 use Rattle.tl_problem.proofs.Heights.{IsLowAt-from, IsLowAt-higher, IsLowAt-wider, height-from_low}
@@ -74,7 +78,7 @@ module _ (cols : ℕ) (gap : ℕ) (cells : List Cell) (inside : All (IsInGrid co
   }
 
   module _ (column place : ℕ) (places : List ℕ) (are : AreLeastPlaces gap cells column places)
-      (next : IsNextPlace gap cells (length cells) places column place) where
+      (next : IsNextPlace gap cells (column + 1) places column place) where
     -- no widths that give the cells their least widths begin the next column before this place
     pub next-least : (widths : List ℕ) → GiveLeast gap cells widths → place ≤ position gap widths (column + 1)
     next-least widths give =
@@ -109,7 +113,7 @@ module _ (cols : ℕ) (gap : ℕ) (cells : List Cell) (inside : All (IsInGrid co
             | inr ends ↦
                 let e : (cell_at cells k).right ≡ column + 1 = omega arith in
                 let at = ap (λ p. get_or (set places (column + 1) place) p 0) e in
-                omega (arith, old (cell_at cells k).left (omega (arith, ahead, e)), at, new, next.rooms k cell e)
+                omega (arith, old (cell_at cells k).left (omega (arith, ahead, e)), at, new, next.rooms k cell (omega (arith, ahead, e)) e)
           ];
       least = λ widths give p up. elim (cases_lt p (column + 1)) [
         | inl before ↦ omega (arith, old p before, are.least widths give p (omega (arith, before)))
@@ -122,42 +126,141 @@ module _ (cols : ℕ) (gap : ℕ) (cells : List Cell) (inside : All (IsInGrid co
       new : get_or (set places (column + 1) place) (column + 1) 0 ≡ place
       new = get_or-set_same places (column + 1) place 0 within
 
--- ---- the place of the next column, one cell after another
+-- ---- the greatest least widths between two places of columns, one cell after another
 
-module _ (gap : ℕ) (cells : List Cell) (number : ℕ) (places : List ℕ) (column place : ℕ)
-    (next : IsNextPlace gap cells number places column place) where
-  abbrev cell : Cell
-  cell = cell_at cells number
+abbrev pub nones : ℕ → List (Option ℕ)
+nones n = replicate n None
 
-  abbrev past : ℕ
-  past = get_or places cell.left 0 + first_width cell.low + gap
+pub none-everywhere : (n k : ℕ) → get_or (nones n) k None ≡ None
+none-everywhere n k = elim (cases_lt k n) [
+  | inl within ↦ get_or-replicate n k None None within
+  | inr past ↦ get_or_past (nones n) k None (omega (arith, length-replicate {A = Option ℕ} n None, past))
+]
 
-  pub next-skip : (cell.right ≡ column + 1 → ⊥) → IsNextPlace gap cells (number + 1) places column place
-  next-skip other = record {
-    gaps = next.gaps;
-    rooms = λ k below ends. elim (cases_eq k number) [
-      | inl same ↦ absurd (other (rw same at ends))
-      | inr apart ↦ next.rooms k (omega arith) ends
-    ];
-    attained = elim next.attained [
-      | inl after ↦ inl after
-      | inr cell ↦ inr (cell.0, (omega (arith, cell.1.0), cell.1.1))
-    ];
+pub grid-few : (cells : List Cell) (cols : ℕ) → cols ≤ MAX_COLUMNS → All (IsInGrid cols) cells → All (IsInGrid MAX_COLUMNS) cells
+grid-few cells cols few grid k d within = let in_grid = grid k d within in (in_grid.0, omega (arith, in_grid.1, few))
+
+slot-parts : (left right : ℕ) (cell : Cell) → right < PLACES → cell.right < PLACES →
+    slot_of PLACES cell ≡ left * PLACES + right → (cell.left ≡ left) × (cell.right ≡ right)
+slot-parts left right cell within inside same = (
+  sym (div-mul-add cell.left PLACES cell.right inside) ∙ ap (λ n. n / PLACES) same ∙ div-mul-add left PLACES right within,
+  sym (mod-mul-add cell.left PLACES cell.right inside) ∙ ap (λ n. n % PLACES) same ∙ mod-mul-add left PLACES right within,
+)
+
+module _ (cells : List Cell) where
+  pub widest-none : (widest : List (Option ℕ)) → length widest ≡ PAIRS → ((pair : ℕ) → get_or widest pair None ≡ None) →
+      AreWidest cells 0 widest
+  widest-none widest size clear = record {
+    size = size;
+    all = λ k below. absurd (omega arith);
+    some = λ pair w is. let both : None ≡ Some w = sym (clear pair) ∙ is in absurd (cc);
   }
 
-  pub next-more : cell.right ≡ column + 1 → IsNextPlace gap cells (number + 1) places column (max place past)
-  next-more here = record {
-    gaps = omega (arith, next.gaps);
-    rooms = λ k below ends. elim (cases_eq k number) [
-      | inl same ↦ rw same (omega arith)
-      | inr apart ↦ omega (arith, next.rooms k (omega arith) ends)
+  module _ (k : ℕ) (widest : List (Option ℕ)) (h : AreWidest cells k widest) where
+    abbrev here : ℕ
+    here = slot_of PLACES (cell_at cells k)
+
+    abbrev wide : ℕ
+    wide = first_width (cell_at cells k).low
+
+    abbrev before : Option ℕ
+    before = get_or widest here None
+
+    abbrev after : List (Option ℕ)
+    after = set widest here (Some (max (unwrap_or before 0) wide))
+
+    pub widest-more : here < PAIRS → AreWidest cells (k + 1) after
+    widest-more inside = record {
+      size = length-set widest here (Some (max (unwrap_or before 0) wide)) ∙ h.size;
+      all = λ j below. all j below (cases_eq (slot_of PLACES (cell_at cells j)) here) (cases_eq j k);
+      some = λ pair w is. some pair w is (cases_eq pair here);
+    } where
+      new : get_or after here None ≡ Some (max (unwrap_or before 0) wide)
+      new = get_or-set_same widest here (Some (max (unwrap_or before 0) wide)) None (omega (arith, h.size, inside))
+
+      old : (pair : ℕ) → pair ≢ here → get_or after pair None ≡ get_or widest pair None
+      old pair apart = get_or-set_other widest here pair (Some (max (unwrap_or before 0) wide)) None apart
+
+      at_most : (o : Option ℕ) (w : ℕ) → IsSomeAnd o (λ v. w ≤ v) → w ≤ unwrap_or o 0
+      at_most None w none = absurd none
+      at_most (Some v) w is = is
+
+      all : (j : ℕ) → j < k + 1 → (slot_of PLACES (cell_at cells j) ≡ here) ⊎ (slot_of PLACES (cell_at cells j) ≢ here) →
+          (j ≡ k) ⊎ (j ≢ k) →
+          IsSomeAnd (get_or after (slot_of PLACES (cell_at cells j)) None) (λ w. first_width (cell_at cells j).low ≤ w)
+      all j below (inl same) (inl last) = rw (same, new) (omega (arith, ap (λ i. first_width (cell_at cells i).low) last))
+      all j below (inl same) (inr earlier) = rw (same, new) (omega (
+        arith,
+        at_most before (first_width (cell_at cells j).low) (rw same at (h.all j (omega arith))),
+      ))
+      all j below (inr apart) (inl last) = absurd (apart (ap (λ i. slot_of PLACES (cell_at cells i)) last))
+      all j below (inr apart) (inr earlier) = rw (old (slot_of PLACES (cell_at cells j)) apart) (h.all j (omega arith))
+
+      given : (o : Option ℕ) → 0 < unwrap_or o 0 → o ≡ Some (unwrap_or o 0)
+      given None some = absurd (omega arith)
+      given (Some v) some = refl
+
+      some : (pair w : ℕ) → get_or after pair None ≡ Some w → (pair ≡ here) ⊎ (pair ≢ here) →
+          (j : ℕ) × ((j < k + 1) × ((slot_of PLACES (cell_at cells j) ≡ pair) × (first_width (cell_at cells j).low ≡ w)))
+      some pair w is (inr apart) =
+          let found = h.some pair w (sym (old pair apart) ∙ is) in
+          (found.0, (omega (arith, found.1.0), found.1.1))
+      some pair w is (inl same) =
+          let value : max (unwrap_or before 0) wide ≡ w =
+          let both : Some (max (unwrap_or before 0) wide) ≡ Some w = sym new ∙ sym (ap (λ i. get_or after i None) same) ∙ is in
+          ap (λ o. unwrap_or o 0) both in
+          elim (cases_lt wide (unwrap_or before 0)) [
+            | inl less ↦
+                let found = h.some here (unwrap_or before 0) (given before (omega (arith, less))) in
+                (found.0, (omega (arith, found.1.0), (found.1.1.0 ∙ sym same, omega (arith, found.1.1.1, less, value))))
+            | inr more ↦ (k, (omega arith, (sym same, omega (arith, more, value))))
+          ]
+
+-- ---- the place of the next column, one column after another
+
+module _ (gap : ℕ) (cells : List Cell) (inside : All (IsInGrid MAX_COLUMNS) cells) (widest : List (Option ℕ))
+    (are : AreWidest cells (length cells) widest)
+    (left : ℕ) (places : List ℕ) (column place : ℕ) (within : column < MAX_COLUMNS)
+    (next : IsNextPlace gap cells left places column place) where
+  abbrev pair : ℕ
+  pair = left * PLACES + (column + 1)
+
+  pub next-skip : get_or widest pair None ≡ None → IsNextPlace gap cells (left + 1) places column place
+  next-skip clear = record {
+    gaps = next.gaps;
+    rooms = λ k below up ends. elim (cases_eq (cell_at cells k).left left) [
+      | inl same ↦
+          let at : slot_of PLACES (cell_at cells k) ≡ pair =
+          ap (λ l. l * PLACES + (cell_at cells k).right) same ∙ ap (λ r. left * PLACES + r) ends in
+          absurd (rw (at, clear) at (are.all k below))
+      | inr apart ↦ next.rooms k below (omega arith) ends
     ];
-    attained = elim (cases_lt place past) [
-      | inl later ↦ inr (number, (omega arith, (here, omega (arith, later))))
+    attained = next.attained;
+  }
+
+  pub next-more : (least : ℕ) → get_or widest pair None ≡ Some least →
+      IsNextPlace gap cells (left + 1) places column (max place (get_or places left 0 + least + gap))
+  next-more least is = record {
+    gaps = omega (arith, next.gaps);
+    rooms = λ k below up ends. elim (cases_eq (cell_at cells k).left left) [
+      | inl same ↦
+          let at : slot_of PLACES (cell_at cells k) ≡ pair =
+          ap (λ l. l * PLACES + (cell_at cells k).right) same ∙ ap (λ r. left * PLACES + r) ends in
+          let wide : first_width (cell_at cells k).low ≤ least = rw (at, is) at (are.all k below) in
+          omega (arith, wide, ap (λ l. get_or places l 0) same)
+      | inr apart ↦ omega (arith, next.rooms k below (omega arith) ends)
+    ];
+    attained = elim (cases_lt place (get_or places left 0 + least + gap)) [
       | inr before ↦ elim next.attained [
         | inl after ↦ inl (omega (arith, after, before))
-        | inr cell ↦ inr (cell.0, (omega (arith, cell.1.0), (cell.1.1.0, omega (arith, cell.1.1.1, before))))
+        | inr cell ↦ inr (cell.0, (cell.1.0, (cell.1.1.0, omega (arith, cell.1.1.1, before))))
       ]
+      | inl later ↦
+          let one = are.some pair least is in
+          let in_grid = inside one.0 no_cell one.1.0 in
+          let parts = slot-parts left (column + 1) (cell_at cells one.0) (omega (arith, within)) (omega (arith, in_grid.1))
+          one.1.1.0 in
+          inr (one.0, (one.1.0, (parts.1, omega (arith, later, one.1.1.1, ap (λ l. get_or places l 0) parts.0))))
     ];
   }
 
@@ -183,7 +286,7 @@ module _ (cols : ℕ) (style : Style) (width : ℕ) (cells : List Cell) (inside 
       omega (arith, ends, at, within.page)
 
   pub not-past : (column place : ℕ) (places : List ℕ) → column < cols → AreLeastPlaces gap cells column places →
-      IsNextPlace gap cells (length cells) places column place → width + gap < place → FitsPageWidth cols style width cells → ⊥
+      IsNextPlace gap cells (column + 1) places column place → width + gap < place → FitsPageWidth cols style width cells → ⊥
   not-past column place places below are next past fits =
       let least = next-least cols gap cells inside column place places are next fits.0 (page-gives fits.0 fits.1) in
       let later = position-mono gap fits.0 (column + 1) cols (omega arith) in

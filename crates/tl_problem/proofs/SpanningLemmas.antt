@@ -19,7 +19,10 @@ use Rattle.std.proofs.Math.Nat.{mul-le-mul, mul-le-mul_right, le-mul_of_pos_righ
 use Rattle.tl_base.specs.declared.limits.TheConstants.{MAX_COLUMNS, MAX_PAGE_WIDTH}
 use Rattle.tl_base.specs.declared.steps.Config.{Config}
 use Rattle.tl_base.specs.Steps.{first_width}
-use Rattle.tl_base.proofs.Members.{Contains-first, Contains-none, AllPairs-append, filter-Contains, Contains-push}
+use Rattle.tl_base.proofs.Members.{Contains-first, Contains-none, Contains-filter, Contains-map, map-Contains}
+use Rattle.tl_base.proofs.Members.{AllPairs-append, filter-Contains, Contains-push}
+use Rattle.tl_problem.specs.declared.axis.Axis.TheVariants.{Columns}
+use Rattle.tl_problem.specs.declared.axis.Turn.{Turn}
 use Rattle.tl_problem.specs.declared.cell.Cell.{Cell}
 use Rattle.tl_problem.specs.declared.cell.Span.{Span}
 use Rattle.tl_problem.specs.Problem.{ProblemModel}
@@ -27,12 +30,14 @@ use Rattle.tl_problem.specs.Sound.{IsSound}
 use Rattle.tl_problem.specs.Spans.{span, has_span, all_spans, greatest, spans_of, cells_of, least_width, page_room, begins_step}
 use Rattle.tl_problem.specs.Spans.{classes_of, product}
 use Rattle.tl_problem.specs.Zones.{span_at, classes_at}
+use Rattle.tl_problem.specs.inner.Axes.{turn, IsOrder, HaveAllAt}
 use Rattle.tl_problem.specs.inner.Demands.{cell_at}
 use Rattle.tl_problem.specs.inner.Spanning.{slot_of, IsSeen, IsEarlier, AreSpansUpto, AreSpans, cells_among, least_among}
 use Rattle.tl_problem.specs.inner.Spanning.{IsStepAt, AddsSteps}
-use Rattle.tl_problem.specs.inner.Spanning.{IsClass, AreFound, AreFirsts, AreClasses}
+use Rattle.tl_problem.specs.inner.Spanning.{IsClass, AreFound, AreFirsts, AreClasses, AreTurnsAt, cells_at}
+use Rattle.tl_problem.proofs.AxisLemmas.{IsTurn, order-turns, order-all}
 use Rattle.tl_problem.proofs.SpanLaws.{has_span-from, has_span-parts, spans-are, begins-from, classes-are, classes-cases}
-use Rattle.tl_problem.proofs.SpanLaws.{classes-least}
+use Rattle.tl_problem.proofs.SpanLaws.{classes-least, greatest-le, greatest-least}
 use Rattle.tl_problem.proofs.SpanLaws.{classes-Contains, classes-some, classes-rising, class-in_page}
 
 -- ---- the steps of one cell
@@ -131,6 +136,21 @@ module _ (done : List Cell) (columns : Span) (cell : Cell) where
       ap greatest (map-append (λ c. first_width c.low) (cells_among done columns) (cell ∷ [])) ∙
       greatest-push (map (λ c. first_width c.low) (cells_among done columns)) (first_width cell.low)
 
+-- the greatest least width of a span among cells is at most that among others with all of these of that span
+least_among-le : (some cells : List Cell) (columns : Span) →
+    ((cell : Cell) → Contains some cell → has_span columns cell ≡ true → Contains cells cell) →
+    least_among some columns ≤ least_among cells columns
+least_among-le some cells columns inside =
+    greatest-least (map width (cells_among some columns)) (least_among cells columns) (λ n has.
+    let one = map-Contains width (cells_among some columns) n has in
+    let among = filter-Contains (has_span columns) some one.0 one.1 in
+    subst (λ m. m ≤ least_among cells columns) one.2
+    (greatest-le (map width (cells_among cells columns)) (width one.0)
+    (Contains-map width (cells_among cells columns) one.0
+    (Contains-filter (has_span columns) cells one.0 among.1 (inside one.0 among.0 among.1))))) where
+      width : Cell → ℕ
+      width cell = first_width cell.low
+
 -- ---- the classes of a span
 
 module _ (cells : List Cell) (columns : Span) (least most : ℕ) where
@@ -218,6 +238,55 @@ module _ (cells : List Cell) (columns : Span) (least most : ℕ) where
     there = λ w has. h.there w (from w has);
     back = λ w is. to w (h.back w is);
   }
+
+-- ---- the cells that begin where a span does
+
+module _ (cells : List Cell) (columns : Span) (turns : List Turn) (at : AreTurnsAt cells columns.left turns) where
+  turns-inside : (cell : Cell) → Contains (cells_at cells turns) cell → Contains cells cell
+  turns-inside cell has =
+      let one = map-Contains (λ (t : Turn). cell_at cells t.cell) turns cell has in
+      let there = All-contains (λ t. t.cell < length cells) turns one.0 at.there one.1 in
+      subst (Contains cells) one.2 (Contains-get_or cells one.0.cell _ there)
+
+  turns-all : (cell : Cell) → Contains cells cell → has_span columns cell ≡ true → Contains (cells_at cells turns) cell
+  turns-all cell (k, within, is) spans =
+      let same : cell_at cells k ≡ cell = get_or_default cells k _ cell within ∙ is in
+      let left = ap (λ c. c.left) same ∙ (has_span-parts columns cell spans).0 in
+      subst (Contains (cells_at cells turns)) same
+      (Contains-map (λ (t : Turn). cell_at cells t.cell) turns (turn columns.left k) (at.each k within left))
+
+  pub least_among-all : least_among (cells_at cells turns) columns ≡ least_among cells columns
+  least_among-all = omega (
+    arith,
+    least_among-le (cells_at cells turns) cells columns (λ cell has is. turns-inside cell has),
+    least_among-le cells (cells_at cells turns) columns turns-all,
+  )
+
+  -- what is found among them is found among all cells
+  pub AreFound-all : (least most : ℕ) (firsts : List ℕ) →
+      AreFound cells (cells_at cells turns) columns least most firsts → AreFound cells cells columns least most firsts
+  AreFound-all least most firsts h = record {
+    least_in = h.least_in;
+    there = h.there;
+    back = λ w is. h.back w (record {
+      cell = is.cell;
+      has = turns-all is.cell is.has is.spans;
+      spans = is.spans;
+      begins = is.begins;
+    });
+  }
+
+-- in the order in which cells begin, those that begin in a column
+pub turns-at : (cells : List Cell) (order turns : List Turn) (column : ℕ) → IsOrder Columns cells order →
+    HaveAllAt order column turns → AreTurnsAt cells column turns
+turns-at cells order turns column is have = record {
+  there = λ k d within.
+      (All-contains (IsTurn Columns cells) order (get_or turns k d) (order-turns Columns cells order is)
+      (have.some k d within)).0;
+  each = λ k within left.
+      have.each (turn column k) (subst (λ start. Contains order (turn start k)) left (order-all Columns cells order is k within))
+      refl;
+}
 
 -- ---- the square of left and right edges
 

@@ -4,11 +4,12 @@ ghost use Rattle.std.specs.Prelude.{◌≡◌, ℕ, ◌+◌, ◌<◌, ◌≤◌,
 ghost use Rattle.tl_diff.specs.Bounds.{IsSatisfiable};
 ghost use Rattle.tl_problem.specs.Layouts.{WithinPage};
 ghost use Rattle.tl_problem.specs.Sound.{IsSound};
+ghost use Rattle.tl_problem.specs.Spans.{spans_of};
 ghost use Rattle.tl_problem.specs.Works.{AreAllowed, KeepsPage};
 ghost use Rattle.tl_problem.specs.Zones.{IsZone};
 ghost use Rattle.tl_problem.specs.inner.Constraints.{AddsFact, AddsRanges, StandApart, AreNear, HasFirst, HasLast, PageUpto};
 
-use crate::{Cell, Problem, Zone};
+use crate::{Problem, Span, Zone};
 use std::alloc::AllocError;
 use tl_base::MAX_PAGE_WIDTH;
 use tl_diff::Matrix;
@@ -17,7 +18,7 @@ use tl_diff::Matrix;
 const MARKS: u32 = 4;
 
 /// A matrix with the constraints of the problem's page: a gap between columns, the least widths of
-/// the cells, and an end within the page.
+/// the spans, and an end within the page.
 pub fn page_matrix(problem: &Problem) -> Result<Matrix, AllocError>
     ensures keeps { IfOk result (λ matrix. KeepsPage problem.now matrix.bounds) }
     ensures whole { IfOk result (λ matrix. (widths : List ℕ) → WithinPage problem.now widths
@@ -26,20 +27,21 @@ pub fn page_matrix(problem: &Problem) -> Result<Matrix, AllocError>
     ensures marks { IfOk result (λ matrix. matrix.marks ≡ 4) }
 {
     let cols = problem.cols();
-    let cells = problem.cells();
+    let spans = problem.spans();
     let style = problem.style();
     let most = (problem.width() + style.gap()).saturating_sub(2 * style.edge());
     let mut matrix = Matrix::new(problem.alloc(), cols + 1, MARKS)?;
+    // A room keeps the gap past its columns too, so that most gaps change nothing then.
+    add_rooms(problem, spans, &mut matrix);
     add_gaps(problem, &mut matrix);
-    add_rooms(problem, cells, &mut matrix);
     keep_near(&mut matrix, 0, cols, most);
     Ok(matrix)
 }
 
 /// Keeps a gap between the columns.
 fn add_gaps(problem: &Problem, matrix: &mut Matrix)
-    requires { PageUpto problem.now 0 0 matrix.old }
-    ensures { PageUpto problem.now problem.now.cols 0 matrix.new }
+    requires { PageUpto problem.now 0 (length (spans_of problem.now)) matrix.old }
+    ensures { PageUpto problem.now problem.now.cols (length (spans_of problem.now)) matrix.new }
 {
     let gap = problem.style().gap();
     for column in 0..problem.cols() {
@@ -47,16 +49,18 @@ fn add_gaps(problem: &Problem, matrix: &mut Matrix)
     }
 }
 
-/// Gives each cell at least its least width.
-fn add_rooms(problem: &Problem, cells: &[Cell], matrix: &mut Matrix)
-    requires cells { cells.now ≡ problem.now.cells }
-    requires page { PageUpto problem.now problem.now.cols 0 matrix.old }
-    ensures { PageUpto problem.now problem.now.cols (length problem.now.cells) matrix.new }
+/// Gives each span at least the first width of its first class, which is the least width that its cells
+/// leave.
+fn add_rooms(problem: &Problem, spans: &[Span], matrix: &mut Matrix)
+    requires spans { spans.now ≡ spans_of problem.now }
+    requires page { PageUpto problem.now 0 0 matrix.old }
+    ensures { PageUpto problem.now 0 (length (spans_of problem.now)) matrix.new }
 {
     let gap = problem.style().gap();
-    for number in 0..cells.len() {
-        let cell = &cells[number];
-        keep_apart(matrix, cell.left, cell.right, cell.low.least() + gap);
+    for s in 0..spans.len() {
+        let span = spans[s];
+        let least = problem.class_list(s)[0];
+        keep_apart(matrix, span.left, span.right, least + gap);
     }
 }
 

@@ -76,8 +76,8 @@ impl Problem {
     {
         let page_room = width.saturating_sub(2 * style.edge());
         let spans = find_spans(alloc, cols, cells.as_slice())?;
-        let classes = find_classes(alloc, cells.as_slice(), &spans, page_room)?;
         let by_left = order(alloc, cells.as_slice(), Axis::Columns)?;
+        let classes = find_classes(alloc, cells.as_slice(), &by_left, &spans, page_room)?;
         let by_top = order(alloc, cells.as_slice(), Axis::Rows)?;
         Ok(Problem {
             alloc,

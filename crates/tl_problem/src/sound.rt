@@ -1,12 +1,16 @@
 //! The test for a sound problem.
 
-ghost use Rattle.std.specs.Prelude.{◌≡◌, ◌+◌, ◌<◌, ◌≤◌, ◌↔◌, length, sum_by, IfNone, IfSome, IsTrue};
+ghost use Rattle.std.specs.Prelude.{◌≡◌, ℕ, ◌+◌, ◌<◌, ◌≤◌, ◌↔◌, List, length, get_or, sum_by, None, IfNone, IfSome, IsTrue};
 ghost use Rattle.std.specs.List.{All, Any};
+ghost use Rattle.tl_base.specs.declared.limits.TheConstants.{MAX_COLUMNS};
 ghost use Rattle.tl_base.specs.Steps.{AreSteps, IsLowAt, first_height};
+ghost use Rattle.tl_problem.specs.declared.cell.Cell.{Cell};
+ghost use Rattle.tl_problem.specs.declared.sound.TheConstants.{PAIRS, PLACES};
 ghost use Rattle.tl_problem.specs.Layouts.{WithinPage};
 ghost use Rattle.tl_problem.specs.Sound.{IsSound, IsSoundCell, ShareSlot};
 ghost use Rattle.tl_problem.specs.inner.Axes.{start_of};
-ghost use Rattle.tl_problem.specs.inner.Soundness.{AreByTop, AreSeparate, BeginsNowhere, EachBegins, FitsPageWidth, IsNextPlace, IsNowhereAbove, IsSeparate, grid};
+ghost use Rattle.tl_problem.specs.inner.Soundness.{AreByTop, AreSeparate, AreWidest, BeginsNowhere, EachBegins, FitsPageWidth, IsNextPlace};
+ghost use Rattle.tl_problem.specs.inner.Soundness.{IsNowhereAbove, IsSeparate, grid};
 ghost use Rattle.tl_problem.specs.inner.Spanning.{IsInGrid};
 
 use crate::axis::Axis;
@@ -15,6 +19,9 @@ use tl_base::{Config, MAX_COLUMNS, MAX_HEIGHT, MAX_PAGE_WIDTH, MAX_ROWS, Steps, 
 
 /// The places of columns: where each begins, and where the last one ends.
 const PLACES: usize = MAX_COLUMNS + 1;
+
+/// Two places of columns each, row by row.
+const PAIRS: usize = PLACES * PLACES;
 
 impl Problem {
     /// Whether these are a sound problem's columns, rows, style, width and cells, so that
@@ -213,9 +220,11 @@ fn fits(cols: u32, style: Style, width: u32, cells: &[Cell]) -> bool
     ensures { IsTrue result ↔ FitsPageWidth cols style width cells.now }
 {
     let end = width + style.gap();
+    let mut widest = [None; PAIRS];
+    find_widest(cells, &mut widest);
     let mut places = [0; PLACES];
     for column in 0..cols as usize {
-        let place = next_place(cells, style.gap(), &places, column);
+        let place = next_place(&widest, style.gap(), &places, column);
         if place > u64::from(end) {
             return false;
         }
@@ -227,20 +236,36 @@ fn fits(cols: u32, style: Style, width: u32, cells: &[Cell]) -> bool
     places[cols as usize] + 2 * style.edge() <= end
 }
 
-/// The least place for the column after this one: a gap past this column's place, and past each cell
-/// that ends there.
-fn next_place(cells: &[Cell], gap: u32, places: &[u32], column: usize) -> u64
-    requires inside { column < length places.now }
-    requires grid { All (λ cell. cell.left < length places.now) cells.now }
-    requires small { gap ≤ 2 }
-    ensures { IsNextPlace gap cells.now (length cells.now) places.now column result }
+/// Writes for each two places of columns the greatest least width of the cells between them, and leaves
+/// `None` where there is none.
+fn find_widest(cells: &[Cell], widest: &mut [Option<u32>])
+    requires grid { All (IsInGrid MAX_COLUMNS) cells.now }
+    requires size { length widest.old ≡ PAIRS }
+    requires clear { (pair : ℕ) → get_or widest.old pair None ≡ None }
+    ensures { AreWidest cells.now (length cells.now) widest.new }
 {
-    let mut place = u64::from(places[column]) + u64::from(gap);
     for number in 0..cells.len() {
         let cell = &cells[number];
-        if cell.right as usize == column + 1 {
-            let begins = u64::from(places[cell.left as usize]);
-            place = place.max(begins + u64::from(cell.low.least()) + u64::from(gap));
+        let pair = cell.left as usize * PLACES + cell.right as usize;
+        let before = widest[pair].unwrap_or(0);
+        widest[pair] = Some(before.max(cell.low.least()));
+    }
+}
+
+/// The least place for the column after this one: a gap past this column's place, and past each cell
+/// that ends there. It is that of any cells whose greatest least widths these are.
+fn next_place(widest: &[Option<u32>], gap: u32, places: &[u32], column: usize) -> u64
+    requires inside { column < MAX_COLUMNS }
+    requires pairs { length widest.now ≡ PAIRS }
+    requires places { length places.now ≡ PLACES }
+    requires small { gap ≤ 2 }
+    ensures { (cells : List Cell) → All (IsInGrid MAX_COLUMNS) cells → AreWidest cells (length cells) widest.now →
+        IsNextPlace gap cells (column + 1) places.now column result }
+{
+    let mut place = u64::from(places[column]) + u64::from(gap);
+    for left in 0..column + 1 {
+        if let Some(least) = widest[left * PLACES + column + 1] {
+            place = place.max(u64::from(places[left]) + u64::from(least) + u64::from(gap));
         }
     }
     place

@@ -2,8 +2,13 @@
 
 ghost use Rattle.std.specs.Prelude.{◌≡◌, ◌+◌, ◌<◌, ◌≤◌, length, IfOk, OnOk};
 ghost use Rattle.std.specs.List.{All};
-ghost use Rattle.tl_problem.specs.inner.Spanning.{AddsSteps, AreClasses, AreFirsts, AreSpans, IsInGrid, IsSeen, least_among};
+ghost use Rattle.std.specs.List.Sorted.{IsNonDecreasingBy};
+ghost use Rattle.tl_problem.specs.declared.axis.Axis.TheVariants.{Columns};
+ghost use Rattle.tl_problem.specs.inner.Axes.{HaveAllAt, IsOrder};
+ghost use Rattle.tl_problem.specs.inner.Spanning.{AddsSteps, AreClasses, AreFirsts, AreSpans, AreTurnsAt, IsInGrid, IsSeen};
+ghost use Rattle.tl_problem.specs.inner.Spanning.{cells_at, least_among};
 
+use crate::axis::Turn;
 use crate::{Cell, Span};
 use std::alloc::{AllocError, Global};
 use tl_base::{Config, List, MAX_COLUMNS};
@@ -41,36 +46,54 @@ fn seen_spans(alloc: Global, side: usize, cells: &[Cell]) -> Result<Vec<bool>, A
     Ok(seen)
 }
 
-/// The first widths of the classes of each span.
+/// The first widths of the classes of each span. The cells are given by left too.
 pub fn find_classes(
     alloc: Global,
     cells: &[Cell],
+    by_left: &[Turn],
     spans: &[Span],
     page_room: u32,
 ) -> Result<Vec<List<u32>>, AllocError>
+    requires { IsOrder Columns cells.now by_left.now }
     ensures { IfOk result (λ classes. AreClasses cells.now page_room spans.now (length spans.now) classes.items) }
 {
     let mut classes = Vec::new(alloc);
     for span in spans {
-        classes.push(first_widths(alloc, cells, *span, page_room)?)?;
+        let turns = beginning_in(by_left, span.left);
+        classes.push(first_widths(alloc, cells, turns, *span, page_room)?)?;
     }
     Ok(classes)
 }
 
+/// The turns of the cells that begin in the column.
+fn beginning_in(by_left: &[Turn], column: u32) -> &[Turn]
+    requires { IsNonDecreasingBy (λ t. t.start) by_left.now }
+    ensures { HaveAllAt by_left.now column result.now }
+{
+    let before = by_left.partition_point(|turn| turn.start < column);
+    let rest = &by_left[before..];
+    let count = rest.partition_point(|turn| turn.start <= column);
+    &rest[..count]
+}
+
 /// The first widths of the classes of one span: the greatest least width of its cells, and each
-/// greater width within the page at which a step of one begins.
+/// greater width within the page at which a step of one begins. These are the turns of the cells that begin
+/// where the span does.
 fn first_widths(
     alloc: Global,
     cells: &[Cell],
+    turns: &[Turn],
     span: Span,
     page_room: u32,
 ) -> Result<List<u32>, AllocError>
+    requires { AreTurnsAt cells.now span.left turns.now }
     ensures { IfOk result (AreFirsts cells.now span page_room) }
 {
-    let least = greatest_least(cells, span);
+    let least = greatest_least(cells, turns, span);
     let mut firsts = Vec::new(alloc);
     firsts.push(least)?;
-    for cell in cells {
+    for turn in turns {
+        let cell = &cells[turn.cell as usize];
         if cell.left == span.left && cell.right == span.right {
             add_steps(&mut firsts, cell.low.configs(), least, page_room)?;
             add_steps(&mut firsts, cell.high.configs(), least, page_room)?;
@@ -81,12 +104,14 @@ fn first_widths(
     Ok(List::from_vec(firsts))
 }
 
-/// The greatest of the least widths of the span's cells.
-fn greatest_least(cells: &[Cell], span: Span) -> u32
-    ensures { result ≡ least_among cells.now span }
+/// The greatest of the least widths of the span's cells among those that have a turn.
+fn greatest_least(cells: &[Cell], turns: &[Turn], span: Span) -> u32
+    requires { All (λ t. t.cell < length cells.now) turns.now }
+    ensures { result ≡ least_among (cells_at cells.now turns.now) span }
 {
     let mut least: u32 = 0;
-    for cell in cells {
+    for turn in turns {
+        let cell = &cells[turn.cell as usize];
         if cell.left == span.left && cell.right == span.right {
             least = least.max(cell.low.least());
         }

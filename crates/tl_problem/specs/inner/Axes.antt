@@ -1,5 +1,6 @@
 -- Columns and rows alike, and cells in the order in which they begin; no public clause cites this file.
-use Rattle.std.specs.Prelude.{ℕ, ◌+◌, List, [], ◌∷◌}
+use Rattle.std.specs.Prelude.{◌≡◌, ℕ, ◌+◌, List, [], ◌∷◌}
+use Rattle.std.specs.List.{All, Contains}
 use Rattle.std.specs.List.Sorted.{IsPermutation, IsNonDecreasingBy}
 use Rattle.tl_base.specs.Style.{gap_of, row_gap_of}
 use Rattle.tl_problem.specs.declared.axis.Axis.{Axis}
@@ -41,3 +42,8 @@ turns_from axis number (cell ∷ cells) = turn (start_of axis cell) number ∷ t
 pub record IsOrder (axis : Axis) (cells : List Cell) (order : List Turn) : Type 0 where
   pub same : IsPermutation (turns_from axis 0 cells) order
   pub rising : IsNonDecreasingBy (λ t. t.start) order
+
+-- turns of an order, among them all that start at this place
+pub record HaveAllAt (order : List Turn) (place : ℕ) (turns : List Turn) : Type 0 where
+  pub some : All (λ t. Contains order t) turns
+  pub each : (t : Turn) → Contains order t → t.start ≡ place → Contains turns t

@@ -1,7 +1,6 @@
 -- Constraints of the page, one after another; no public clause cites this file.
 use Rattle.std.specs.Prelude.{◌≡◌, ℕ, ◌+◌, ◌<◌, ℤ, pos, ◌+ℤ◌, ◌≤ℤ◌, List, [], length}
 use Rattle.tl_base.specs.Style.{gap_of}
-use Rattle.tl_base.specs.Steps.{first_width}
 use Rattle.tl_diff.specs.Bounds.{Satisfies}
 use Rattle.tl_diff.specs.Marks.{MarkedBounds}
 use Rattle.tl_problem.specs.Problem.{ProblemModel}
@@ -10,7 +9,6 @@ use Rattle.tl_problem.specs.Layouts.{WithinPage}
 use Rattle.tl_problem.specs.Sound.{IsSound}
 use Rattle.tl_problem.specs.Zones.{span_at, range_at, first_in_class, last_in_class, span_width, IsWidthOf}
 use Rattle.tl_problem.specs.Works.{AreAllowed}
-use Rattle.tl_problem.specs.inner.Demands.{cell_at}
 
 -- columns a and b are at least `m` apart
 abbrev pub StandApart : (ℕ → ℤ) → ℕ → ℕ → ℕ → Type 0
@@ -21,17 +19,16 @@ abbrev pub AreNear : (ℕ → ℤ) → ℕ → ℕ → ℕ → Type 0
 AreNear x a b m = x b ≤ℤ (x a +ℤ pos m)
 
 -- the constraints so far: all widths of the page satisfy them, and each that satisfies them has the gaps of the first
--- columns, and gives the first cells their least widths
-pub record PageUpto (problem : ProblemModel) (columns cells : ℕ) (matrix : MarkedBounds) : Type 0 where
+-- columns, and gives the first spans the first widths of their first classes
+pub record PageUpto (problem : ProblemModel) (columns spans : ℕ) (matrix : MarkedBounds) : Type 0 where
   pub sound : IsSound problem
   pub variables : matrix.bounds.n ≡ problem.cols + 1
   pub marks : matrix.marks ≡ 4
   pub none_held : matrix.held ≡ []
   pub whole : (widths : List ℕ) → WithinPage problem widths → AreAllowed problem matrix.bounds widths
   pub gaps : (x : ℕ → ℤ) → Satisfies matrix.bounds x → (k : ℕ) → k < columns → StandApart x k (k + 1) (gap_of problem.style)
-  pub rooms : (x : ℕ → ℤ) → Satisfies matrix.bounds x → (k : ℕ) → k < cells →
-      StandApart x (cell_at problem.cells k).left (cell_at problem.cells k).right
-      (first_width (cell_at problem.cells k).low + gap_of problem.style)
+  pub rooms : (x : ℕ → ℤ) → Satisfies matrix.bounds x → (s : ℕ) → s < spans →
+      StandApart x (span_at problem s).left (span_at problem s).right (first_in_class problem s 0 + gap_of problem.style)
 
 -- the matrix with one fact more: the marks stay as they are
 pub record AddsFact (old new : MarkedBounds) (Fact : (ℕ → ℤ) → Type 0) : Type 0 where

@@ -1,6 +1,7 @@
 -- What the parts of the test for a sound problem find; no public clause cites this file.
-use Rattle.std.specs.Prelude.{◌≡◌, ℕ, ◌+◌, ◌<◌, ◌≤◌, ◌⊎◌, List, [], length, get_or}
+use Rattle.std.specs.Prelude.{◌≡◌, ℕ, ◌+◌, ◌<◌, ◌≤◌, ◌⊎◌, List, [], length, get_or, Option, Some, None}
 use Rattle.std.specs.List.{AllPairs, Any}
+use Rattle.std.specs.Option.{IsSomeAnd}
 use Rattle.tl_base.specs.declared.style.Style.{Style}
 use Rattle.tl_base.specs.declared.style.Style.TheVariants.{Plain}
 use Rattle.tl_base.specs.declared.steps.Config.{Config}
@@ -12,7 +13,9 @@ use Rattle.tl_problem.specs.Problem.{ProblemModel}
 use Rattle.tl_problem.specs.Layouts.{WithinPage}
 use Rattle.tl_problem.specs.Sound.{ShareSlot}
 use Rattle.tl_problem.specs.inner.Axes.{start_of}
+use Rattle.tl_problem.specs.declared.sound.TheConstants.{PAIRS, PLACES}
 use Rattle.tl_problem.specs.inner.Demands.{cell_at}
+use Rattle.tl_problem.specs.inner.Spanning.{slot_of}
 
 -- so many columns and rows, with no cells and no page: what a cell alone is tested against
 abbrev pub grid : ℕ → ℕ → ProblemModel
@@ -53,12 +56,22 @@ FitsPageWidth cols style width cells = (widths : List ℕ)
 abbrev pub IsPastRoom : ℕ → List ℕ → Cell → ℕ → Type 0
 IsPastRoom gap places cell place = get_or places cell.left 0 + first_width cell.low + gap ≤ place
 
--- the least place for the column after this one, by the places before it and the first cells, up to a number
+-- for each two places of columns, row by row, the greatest least width of the first cells, up to a number, between them
+pub record AreWidest (cells : List Cell) (upto : ℕ) (widest : List (Option ℕ)) : Type 0 where
+  pub size : length widest ≡ PAIRS
+  pub all : (k : ℕ) → k < upto →
+      IsSomeAnd (get_or widest (slot_of PLACES (cell_at cells k)) None) (λ w. first_width (cell_at cells k).low ≤ w)
+  pub some : (pair w : ℕ) → get_or widest pair None ≡ Some w →
+      (k : ℕ) × ((k < upto) × ((slot_of PLACES (cell_at cells k) ≡ pair) × (first_width (cell_at cells k).low ≡ w)))
+
+-- the least place for the column after this one, by the places before it and the cells that begin in the first columns, up
+-- to one
 pub record IsNextPlace (gap : ℕ) (cells : List Cell) (upto : ℕ) (places : List ℕ) (column place : ℕ) : Type 0 where
   pub gaps : get_or places column 0 + gap ≤ place
-  pub rooms : (k : ℕ) → k < upto → (cell_at cells k).right ≡ column + 1 → IsPastRoom gap places (cell_at cells k) place
+  pub rooms : (k : ℕ) → k < length cells → (cell_at cells k).left < upto → (cell_at cells k).right ≡ column + 1 →
+      IsPastRoom gap places (cell_at cells k) place
   pub attained : (get_or places column 0 + gap ≡ place)
-      ⊎ ((k : ℕ) × ((k < upto) × (((cell_at cells k).right ≡ column + 1)
+      ⊎ ((k : ℕ) × ((k < length cells) × (((cell_at cells k).right ≡ column + 1)
       × (get_or places (cell_at cells k).left 0 + first_width (cell_at cells k).low + gap ≡ place))))
 
 -- each place up to a column is the least: widths that give each cell its least width begin no column before it

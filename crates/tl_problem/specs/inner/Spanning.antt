@@ -1,12 +1,14 @@
 -- How the spans of cells, and the classes of a span, are found; no public clause cites this file.
 use Rattle.std.specs.Prelude.{◌≡◌, ℕ, ◌+◌, ◌*◌, ◌/◌, ◌%◌, ◌<◌, ◌≤◌, ◌⊎◌, Bool, true, false, List, [], ◌++◌, length, get_or, map}
 use Rattle.std.specs.Prelude.{filter}
-use Rattle.std.specs.List.{AllPairs, Contains}
+use Rattle.std.specs.List.{All, AllPairs, Contains}
 use Rattle.tl_base.specs.declared.steps.Config.{Config}
 use Rattle.tl_base.specs.Steps.{first_width}
+use Rattle.tl_problem.specs.declared.axis.Turn.{Turn}
 use Rattle.tl_problem.specs.declared.cell.Cell.{Cell}
 use Rattle.tl_problem.specs.declared.cell.Span.{Span}
 use Rattle.tl_problem.specs.Spans.{span, has_span, greatest}
+use Rattle.tl_problem.specs.inner.Axes.{turn}
 use Rattle.tl_problem.specs.inner.Demands.{cell_at}
 
 -- the cell lies within so many columns
@@ -43,6 +45,15 @@ pub record AreSpans (cells : List Cell) (spans : List Span) : Type 0 where
 -- the cells of a span, among some
 abbrev pub cells_among : List Cell → Span → List Cell
 cells_among cells columns = filter (has_span columns) cells
+
+-- the cells that have these turns, in their order
+abbrev pub cells_at : List Cell → List Turn → List Cell
+cells_at cells turns = map (λ t. cell_at cells t.cell) turns
+
+-- turns of cells, among them those of all cells that begin in the column
+pub record AreTurnsAt (cells : List Cell) (column : ℕ) (turns : List Turn) : Type 0 where
+  pub there : All (λ t. t.cell < length cells) turns
+  pub each : (k : ℕ) → k < length cells → (cell_at cells k).left ≡ column → Contains turns (turn column k)
 
 -- the greatest least width of the span's cells
 abbrev pub least_among : List Cell → Span → ℕ

@@ -1,4 +1,5 @@
-use Rattle.std.proofs.Common.{arith}
+use Rattle.std.proofs.Common.{length, arith}
+use Rattle.tl_problem.specs.Spans.{spans_of}
 use Rattle.tl_problem.proofs.ConstraintLemmas.{page-satisfiable, PageUpto-gap}
 use Rattle.tl_problem.proofs.constraints.add_gaps.Goals as goal
 
@@ -9,12 +10,12 @@ pub keep_apart-requires-clause-ends : goal.keep_apart-requires-clause-ends
 keep_apart-requires-clause-ends c = omega (arith, c.loop-column.invariant.variables, c.cols-column-end.ensures)
 
 pub keep_apart-requires-clause-holds : goal.keep_apart-requires-clause-holds
-keep_apart-requires-clause-holds c = page-satisfiable c.args.problem.now c.loop-column.column 0 c.loop-column.matrix
+keep_apart-requires-clause-holds c = page-satisfiable c.args.problem.now c.loop-column.column _ c.loop-column.matrix
     c.loop-column.invariant
 
 pub loop-column-preserved : goal.loop-column-preserved
 loop-column-preserved c =
     PageUpto-gap c.args.problem.now c.loop-column.column c.loop-column.matrix c.keep_apart.new.matrix
-    (omega (arith, c.cols-column-end.ensures))
+    (length (spans_of c.args.problem.now)) (omega (arith, c.cols-column-end.ensures))
     c.loop-column.invariant
     (rw (c.gap-gap.ensures, c.style.ensures) at c.keep_apart.ensures.adds)

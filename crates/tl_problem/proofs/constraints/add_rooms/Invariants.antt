@@ -1,5 +1,5 @@
 use Rattle.tl_problem.specs.inner.Constraints.{PageUpto}
 use Rattle.tl_problem.proofs.constraints.add_rooms.Given as goal
 
-abbrev pub invariant-loop-number : goal.invariant-loop-number
-invariant-loop-number l = PageUpto l.problem l.problem.cols l.number l.matrix
+abbrev pub invariant-loop-s : goal.invariant-loop-s
+invariant-loop-s l = PageUpto l.problem 0 l.s l.matrix

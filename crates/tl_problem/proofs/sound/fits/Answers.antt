@@ -3,9 +3,16 @@ use Rattle.std.proofs.Common.{◌≡◌, ◌≤◌, ◌+◌, ◌<◌, ◌*◌, l
 use Rattle.std.proofs.lemmas.Bool.{cases_lt, le-leb}
 use Rattle.std.proofs.lemmas.List.{get_or-set_same, get_or-set_other, length-set}
 use Rattle.tl_base.specs.Style.{gap_of}
+use Rattle.tl_problem.specs.declared.sound.TheConstants.{PAIRS}
 use Rattle.tl_problem.specs.inner.Soundness.{IsNextPlace, AreLeastPlaces}
-use Rattle.tl_problem.proofs.Soundness.{least_places-none, least_places-more, not-past, fits-ends, ends-fit}
+use Rattle.tl_problem.proofs.Soundness.{grid-few, none-everywhere, least_places-none, least_places-more, not-past, fits-ends, ends-fit}
 use Rattle.tl_problem.proofs.sound.fits.Goals as goal
+
+pub find_widest-requires-clause-grid : goal.find_widest-requires-clause-grid
+find_widest-requires-clause-grid c = grid-few c.args.cells.now c.args.cols c.requires.few c.requires.grid
+
+pub find_widest-requires-clause-clear : goal.find_widest-requires-clause-clear
+find_widest-requires-clause-clear c = λ pair. none-everywhere PAIRS pair
 
 pub loop-column-init : goal.loop-column-init
 loop-column-init c = (
@@ -20,10 +27,10 @@ pub returns-then-place-from : goal.returns-then-place-from
 returns-then-place-from c = (
   λ yes. cc,
   λ fits.
-      let next : IsNextPlace (gap_of c.args.style) c.args.cells.now (length c.args.cells.now)
-      c.loop-column.places c.loop-column.column
-      c.next_place-place.result =
-      rw c.gap-in-loop-column.ensures at c.next_place-place.ensures in
+      let next : IsNextPlace (gap_of c.args.style) c.args.cells.now (c.loop-column.column + 1) c.loop-column.places
+      c.loop-column.column c.next_place-place.result =
+      rw c.gap-in-loop-column.ensures at (c.next_place-place.ensures c.args.cells.now (grid-few c.args.cells.now c.args.cols
+      c.requires.few c.requires.grid) c.find_widest.ensures) in
       absurd (not-past c.args.cols c.args.style c.args.width c.args.cells.now c.requires.grid c.loop-column.column
       c.next_place-place.result
       c.loop-column.places
@@ -36,8 +43,9 @@ loop-column-preserved c =
     let places = c.loop-column.places in
     let column = c.loop-column.column in
     let place = c.next_place-place.result in
-    let next : IsNextPlace (gap_of c.args.style) c.args.cells.now (length c.args.cells.now) places column place =
-    rw c.gap-in-loop-column.ensures at c.next_place-place.ensures in
+    let next : IsNextPlace (gap_of c.args.style) c.args.cells.now (column + 1) places column place =
+    rw c.gap-in-loop-column.ensures at (c.next_place-place.ensures c.args.cells.now (grid-few c.args.cells.now c.args.cols
+    c.requires.few c.requires.grid) c.find_widest.ensures) in
     let room : column + 1 < length places = omega (arith, c.loop-column.invariant.0, c.loop-column-test.true, c.requires.few) in (
       length-set places (column + 1) place ∙ c.loop-column.invariant.0,
       (

@@ -1,42 +1,47 @@
--- A cell that ends before the next column may move it; any other does not.
-use Rattle.std.proofs.Common.{◌≡◌, ◌+◌, max, get_or, ap, arith, ◌∙◌}
-use Rattle.std.proofs.lemmas.List.{get_or_default}
-use Rattle.tl_base.specs.Steps.{first_width}
-use Rattle.tl_problem.specs.inner.Demands.{cell_at}
+-- Where cells stand between a place and the next column, the widest of them may move the column; elsewhere none does.
+use Rattle.std.proofs.Common.{◌≡◌, ◌+◌, ◌*◌, max, get_or, None, Some, arith, inl}
+use Rattle.tl_problem.specs.declared.sound.TheConstants.{PLACES}
 use Rattle.tl_problem.proofs.Soundness.{next-skip, next-more}
 use Rattle.tl_problem.proofs.sound.next_place.Goals as goal
-use Rattle.tl_problem.proofs.sound.next_place.Goals.{then-cell-column, else-cell-column}
+use Rattle.tl_problem.proofs.sound.next_place.Goals.{in-Some, in_default}
 
-pub loop-number-preserved : goal.loop-number-preserved
-loop-number-preserved c =
-    let cells = c.args.cells.now in
-    let places = c.args.places.now in
-    let number = c.loop-number.number in
-    let place = c.loop-number.place in
-    let cell : c.index-cells-number.result ≡ cell_at cells number =
-    c.index-cells-number.is ∙ get_or_default cells number _ _ c.loop-number-test.true in
-    elim c.if-cell-column.branch [
-      | then-cell-column w ↦
-          let right : (cell_at cells number).right ≡ c.args.column + 1 =
-          omega (arith, ap (λ x. x.right) cell, w.if-cell-column.true) in
-          let more = next-more c.args.gap cells number places c.args.column place c.loop-number.invariant right in
-          let new : c.if-cell-column.place ≡ max place (get_or places (cell_at cells number).left 0 + first_width
-          (cell_at cells number).low + c.args.gap) =
+pub loop-left-init : goal.loop-left-init
+loop-left-init c = λ cells grid are. record {
+  gaps = omega (arith, c.from.ensures, c.from-2.ensures);
+  rooms = λ k below up ends. absurd (omega arith);
+  attained = inl (omega (arith, c.from.ensures, c.from-2.ensures));
+}
+
+pub loop-left-preserved : goal.loop-left-preserved
+loop-left-preserved c = λ cells grid are.
+    let left = c.loop-left.left in
+    let column = c.args.column in
+    let widest = c.args.widest.now in
+    let before = c.loop-left.invariant cells grid are in
+    let pair : left * PLACES + (column + 1) ≡ left * PLACES + column + 1 = omega arith in
+    elim c.match-widest-left.branch [
+      | in-Some w ↦
+          let is : get_or widest (left * PLACES + (column + 1)) None ≡ Some w.in-Some.least = rw pair w.in-Some.is in
+          let more = next-more c.args.gap cells grid widest are left c.args.places.now column c.loop-left.place c.requires.inside
+          before w.in-Some.least is in
+          let new : c.match-widest-left.place ≡ max c.loop-left.place (get_or c.args.places.now left 0 + w.in-Some.least
+          + c.args.gap) =
           omega (
             arith,
             w.place-is,
             w.max-place.ensures,
-            w.from-begins.ensures,
-            w.least.ensures,
-            w.from-then-cell-column.ensures,
-            w.from-then-cell-column-2.ensures,
-            ap (λ x. get_or places x.left 0) cell,
-            ap (λ x. first_width x.low) cell,
+            w.from-in-Some.ensures,
+            w.from-in-Some-2.ensures,
+            w.from-in-Some-3.ensures,
           ) in
           rw new more
-      | else-cell-column w ↦
-          let other : (cell_at cells number).right ≡ c.args.column + 1 → ⊥ =
-          λ is. w.if-cell-column.false (omega (arith, ap (λ x. x.right) cell, is)) in
-          let skip = next-skip c.args.gap cells number places c.args.column place c.loop-number.invariant other in
-          rw w.place-is skip
+      | in_default w ↦
+          let clear : get_or widest (left * PLACES + (column + 1)) None ≡ None = rw pair w.in_default.is in
+          rw w.place-is
+          (next-skip c.args.gap cells grid widest are left c.args.places.now column c.loop-left.place c.requires.inside before clear)
     ]
+
+pub returns : goal.returns
+returns c = λ cells grid are.
+    let all : c.loop-left.left ≡ c.args.column + 1 = omega (arith, c.loop-left-test.false, c.loop-left.auto.left-end) in
+    rw all at (c.loop-left.invariant cells grid are)

@@ -1,6 +1,6 @@
 use Rattle.std.proofs.Common.{take}
-use Rattle.tl_problem.specs.inner.Spanning.{AreFound}
+use Rattle.tl_problem.specs.inner.Spanning.{AreFound, cells_at}
 use Rattle.tl_problem.proofs.spans.first_widths.Given as goal
 
-abbrev pub invariant-loop-cell : goal.invariant-loop-cell
-invariant-loop-cell l = AreFound l.cells (take l.cell-index l.cells) l.span l.least l.page_room l.firsts.items
+abbrev pub invariant-loop-turn : goal.invariant-loop-turn
+invariant-loop-turn l = AreFound l.cells (cells_at l.cells (take l.turn-index l.turns)) l.span l.least l.page_room l.firsts.items

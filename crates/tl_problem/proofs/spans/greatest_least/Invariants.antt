@@ -1,6 +1,6 @@
 use Rattle.std.proofs.Common.{◌≡◌, take}
-use Rattle.tl_problem.specs.inner.Spanning.{least_among}
+use Rattle.tl_problem.specs.inner.Spanning.{cells_at, least_among}
 use Rattle.tl_problem.proofs.spans.greatest_least.Given as goal
 
-abbrev pub invariant-loop-cell : goal.invariant-loop-cell
-invariant-loop-cell l = l.least ≡ least_among (take l.cell-index l.cells) l.span
+abbrev pub invariant-loop-turn : goal.invariant-loop-turn
+invariant-loop-turn l = l.least ≡ least_among (cells_at l.cells (take l.turn-index l.turns)) l.span

@@ -15,7 +15,7 @@ order-requires c =
       cells =
           c.args.cells;
     } in
-    rw c.as_slice-3.ensures (omega (arith, few-cells p c.requires))
+    rw c.as_slice-2.ensures (omega (arith, few-cells p c.requires))
 
 pub order-requires-2 : goal.order-requires-2
 order-requires-2 c =
@@ -28,6 +28,9 @@ order-requires-2 c =
           c.args.cells;
     } in
     rw c.as_slice-4.ensures (omega (arith, few-cells p c.requires))
+
+pub find_classes-requires : goal.find_classes-requires
+find_classes-requires c = rw (c.as_slice-3.ensures, c.deref.ensures.value) (rw c.as_slice-2.ensures at c.in_ok-by_left.ensures)
 
 pub invariant_of-result : goal.invariant_of-result
 invariant_of-result c =
@@ -45,12 +48,12 @@ invariant_of-result c =
       each_span = each;
       each_class = classes-found p c.in_ok-classes.classes.items
           (rw (
-            c.as_slice-2.ensures,
+            c.as_slice-3.ensures,
             c.saturating_sub-page_room.ensures,
             c.edge.ensures,
-            c.deref.ensures.value,
+            c.deref-2.ensures.value,
             each,
           ) at c.in_ok-classes.ensures);
-      columns = rw c.as_slice-3.ensures at c.in_ok-by_left.ensures;
+      columns = rw c.as_slice-2.ensures at c.in_ok-by_left.ensures;
       rows = rw c.as_slice-4.ensures at c.in_ok-by_top.ensures;
     }
