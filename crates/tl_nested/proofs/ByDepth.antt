@@ -22,7 +22,7 @@ use Rattle.tl_form.proofs.Truth.{nested_among}
 use Rattle.tl_solve.specs.declared.outcome.Outcome.{Outcome}
 use Rattle.tl_nested.specs.inner.Depths.{AreDepths, AreSizes, depth_of, IsAtDepth}
 use Rattle.tl_nested.specs.inner.Found.{AreTold, IsFoundAt, IsFoundFor, IsFoundOn}
-use Rattle.tl_nested.proofs.SameSteps.{HaveSame, ShareNested, found_on}
+use Rattle.tl_nested.proofs.SameSteps.{ShareNested, found_on}
 
 module _ (document : Document) (sound : IsSound document.table) (sizes depths : List ℕ) (n : ℕ)
     (all : n ≡ nested_in_table document.table + 1)

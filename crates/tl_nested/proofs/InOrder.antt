@@ -1,22 +1,19 @@
 -- Sections that were found on all of them, put in the order of a certificate: each is good on those before it.
 use Rattle.std.proofs.Common.{◌≡◌, ◌∙◌, ℕ, zero, suc, ◌+◌, ◌-◌, ◌<◌, ◌≤◌, List, [], ◌∷◌, ◌++◌, inl, inr, length, get_or}
-use Rattle.std.proofs.Common.{take, Option, None}
+use Rattle.std.proofs.Common.{take}
 use Rattle.std.proofs.Common.{Some, Contains, refl, sym, ap, subst, arith}
 use Rattle.std.specs.List.{All}
 use Rattle.std.proofs.lemmas.Bool.{cases_lt}
-use Rattle.std.proofs.lemmas.List.{get_or_append_left, get_or_default, take_all, take_more}
-use Rattle.std.proofs.lemmas.List.Elements.{All-contains, Contains-append_left, Contains-get_or}
-use Rattle.std.proofs.lemmas.Option.{same_Some}
+use Rattle.std.proofs.lemmas.List.{get_or_default, take_all, take_more}
 use Rattle.tl_base.specs.Style.{gap_of, edge_of}
 use Rattle.tl_base.specs.Sizes.{total}
 use Rattle.tl_problem.specs.Problem.{ProblemModel}
 use Rattle.tl_cert.specs.declared.section.Section.{Section}
-use Rattle.tl_table.specs.declared.cell.Table.{Table, out-Table}
-use Rattle.tl_table.specs.Tables.{inner_tables}
+use Rattle.tl_table.specs.declared.cell.Table.{Table}
 use Rattle.tl_table.proofs.TableNumbers.{inside_greater, sound_among}
 use Rattle.tl_form.specs.declared.subject.Subject.{Subject}
 use Rattle.tl_form.specs.DueProblems.{SectionsGiveSoundProblems}
-use Rattle.tl_form.specs.Expected.{Document, Due, IsDue, IsTableOf, due_after, first_due, next_due, own_number, placed_width}
+use Rattle.tl_form.specs.Expected.{Document, Due, IsDue, IsTableOf, due_after, next_due, own_number, placed_width}
 use Rattle.tl_form.specs.Expected.{AreDueInOrder}
 use Rattle.tl_form.specs.Subjects.{IsSubject, meant}
 use Rattle.tl_form.specs.Valid.{IsProblemAt}
@@ -30,7 +27,7 @@ use Rattle.tl_nested.specs.inner.Found.{IsBegun, IsFoundFor, IsFoundOn, HasNarro
 use Rattle.tl_nested.specs.inner.SoFar.{AreSoFar}
 use Rattle.tl_nested.proofs.Made.{good_so_far, more_so_far, none_so_far, searched, within_due, writable}
 use Rattle.tl_nested.proofs.Ready.{may}
-use Rattle.tl_nested.proofs.SameSteps.{HaveSame, ShareNested, problem_on}
+use Rattle.tl_nested.proofs.SameSteps.{ShareNested, problem_on}
 
 -- what is due next is of no greater number
 next_lower : (document : Document) (number placed : ℕ) (next : Due) → own_number document ≤ number →

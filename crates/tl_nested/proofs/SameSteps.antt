@@ -1,7 +1,7 @@
 -- Where two lists have the same sections of a table they give it the same steps; so the problem of the table around it is the
 -- same on both.
-use Rattle.std.proofs.Common.{◌≡◌, ℕ, ◌≤◌, List, [], ◌∷◌, length, get_or, Contains}
-use Rattle.std.specs.List.{All, AllZip}
+use Rattle.std.proofs.Common.{◌≡◌, ℕ, ◌≤◌, List, [], ◌∷◌, get_or, Contains}
+use Rattle.std.specs.List.{AllZip}
 use Rattle.std.proofs.lemmas.List.Elements.{All-contains, Contains-get_or}
 use Rattle.tl_base.specs.declared.style.Style.{Style}
 use Rattle.tl_base.proofs.Members.{Contains-first, Contains-later}

@@ -5,7 +5,8 @@ ghost use Rattle.tl_base.specs.declared.limits.TheConstants.{MAX_BUDGET, MAX_PAG
 ghost use Rattle.tl_form.specs.Named.{IsLastPlacement};
 ghost use Rattle.tl_table.specs.Least.{IsLeastWidth};
 ghost use Rattle.tl_table.specs.Sound.{IsSound};
-ghost use Rattle.tl_nested.specs.Searched.{AreSectionsOf, AreWritable};
+ghost use Rattle.tl_form.specs.Subjects.{IsSubject};
+ghost use Rattle.tl_nested.specs.Searched.{AreSectionsOf, AreWritable, IsWideEnough};
 ghost use Rattle.tl_problem.specs.Problem.{ProblemModel};
 ghost use Rattle.tl_solve.specs.declared.outcome.Outcome.{Outcome};
 ghost use Rattle.tl_solve.specs.Solver.{IsSolverOutcome};
@@ -15,6 +16,7 @@ use std::alloc::{AllocError, Global};
 use std::thread::Threads;
 use tl_base::{Gate, List, Style};
 use tl_cert::Section;
+use tl_form::Subject;
 use tl_problem::Problem;
 use tl_solve::{Outcome, Solver};
 use tl_table::Table;
@@ -39,7 +41,7 @@ pub trait Make: Sync {
 
 /// All sections of a certificate of the table on a page of `width` columns, each by a solver of its own. So
 /// many `workers` search nested tables of one depth at one time, each table behind the gate by its number;
-/// the sections are those of a certificate for every number of workers.
+/// the sections are those of a certificate for every number of workers. The error is out of memory.
 pub fn sections<R: Threads + Sync, M: Make, G: Gate>(
     rt: &R,
     alloc: Global,
@@ -61,20 +63,20 @@ pub fn sections<R: Threads + Sync, M: Make, G: Gate>(
         style width budget) }
     ensures writable { IfOk result AreWritable }
 {
+    let subject = Subject::of(alloc, table, style, width)?;
     let LaidSections {
         sections,
         placed: _placed,
-    } = laid_sections(rt, alloc, table, style, width, budget, workers, maker, gate)?;
+    } = laid_sections(rt, alloc, &subject, budget, workers, maker, gate)?;
     Ok(sections)
 }
 
-/// The same sections, with the placement that was found for the last of them.
+/// The sections of a subject, which `sections` makes of its table, with the placement that was found for the
+/// last of them. The error is out of memory.
 pub fn laid_sections<R: Threads + Sync, M: Make, G: Gate>(
     rt: &R,
     alloc: Global,
-    table: &Table,
-    style: Style,
-    width: u32,
+    subject: &Subject,
     budget: u32,
     workers: u32,
     maker: &M,
@@ -82,21 +84,19 @@ pub fn laid_sections<R: Threads + Sync, M: Make, G: Gate>(
 ) -> Result<LaidSections, AllocError>
     requires ready { M.can_make maker.now }
     requires workers { 1 ≤ workers }
-    requires sound { IsSound table.now }
-    requires narrow { width ≤ MAX_PAGE_WIDTH }
-    requires wide { (least : ℕ) → IsLeastWidth table.now style least → least ≤ width }
+    requires subject { IsSubject subject.now }
+    requires wide { IsWideEnough subject.now }
     requires cuts { budget ≤ MAX_BUDGET }
     ensures expected { IfOk result (λ laid. AreSectionsOf (λ problem outcome. M.besides maker.now problem budget outcome)
-        table.now style width budget laid.sections) }
+        subject.now.table.now subject.now.style subject.now.page budget laid.sections) }
     ensures writable { IfOk result (λ laid. AreWritable laid.sections) }
-    ensures placed { IfOk result (λ laid. IsLastPlacement table.now style width laid.sections laid.placed) }
+    ensures placed { IfOk result (λ laid. IsLastPlacement subject.now.table.now subject.now.style subject.now.page
+        laid.sections laid.placed) }
 {
     let solve = |problem: &Problem, budget: u32| -> Result<Outcome, AllocError>
         requires { M.can_make maker.now × (budget ≤ MAX_BUDGET) }
         ensures solved { IfOk result (IsSolverOutcome problem.now budget) }
         ensures besides { IfOk result (λ outcome. M.besides maker.entry.now problem.now budget outcome) }
     { maker.make(alloc)?.solve(problem, budget) };
-    sections_by(
-        rt, alloc, table, style, width, budget, workers, &solve, gate,
-    )
+    sections_by(rt, alloc, subject, budget, workers, &solve, gate)
 }

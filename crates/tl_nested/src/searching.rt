@@ -2,12 +2,10 @@
 //! then what is still due, one after the other.
 
 ghost use Rattle.std.specs.Prelude.{◌≡◌, ℕ, ◌≤◌, IfOk, Some, length};
-ghost use Rattle.tl_base.specs.declared.limits.TheConstants.{MAX_BUDGET, MAX_PAGE_WIDTH};
+ghost use Rattle.tl_base.specs.declared.limits.TheConstants.{MAX_BUDGET};
 ghost use Rattle.tl_cert.specs.declared.section.Section.{Section};
 ghost use Rattle.tl_form.specs.Expected.{due_after};
 ghost use Rattle.tl_form.specs.Named.{IsLastPlacement};
-ghost use Rattle.tl_table.specs.Least.{IsLeastWidth};
-ghost use Rattle.tl_table.specs.Sound.{IsSound};
 ghost use Rattle.tl_form.specs.Subjects.{IsSubject, due_of, meant};
 ghost use Rattle.tl_form.specs.Valid.{AreGoodBelow, IsProblemAt};
 ghost use Rattle.tl_nested.specs.Searched.{AreSectionsOf, AreWritable, IsWideEnough};
@@ -17,12 +15,11 @@ use crate::at_once::{Begun, begin, nested_sections};
 use crate::found::{Found, search};
 use std::alloc::{AllocError, Global};
 use std::thread::Threads;
-use tl_base::{Gate, List, Style};
+use tl_base::{Gate, List};
 use tl_cert::Section;
 use tl_form::{Due, Subject, problem_for, sections_give_sound_problems};
 use tl_problem::{Placed, Problem};
 use tl_solve::Outcome;
-use tl_table::Table;
 
 /// The problem of the section that is due, on the sections before it: that of its table at its width, in
 /// columns, with the steps that they give the tables nested directly in it.
@@ -48,11 +45,14 @@ pub fn problem_at(
 /// The sections of a certificate, with the placement that was found for the last of them.
 #[derive(Drop)]
 pub struct LaidSections {
+    /// The sections, in the order in which they are due.
     pub sections: List<Section>,
+    /// The widths of the columns, in columns of text, and the heights of the rows, in lines, of the last
+    /// section's table.
     pub placed: Placed,
 }
 
-/// All sections of a certificate of the table on a page of `width` columns, each by a call of `solve` with
+/// All sections of a certificate of the subject's table on its page, each by a call of `solve` with
 /// its own problem and the budget: of each nested table, from the greatest number down, one on the whole
 /// page, and then one a column narrower than the placement before, as long as the table has a layout there;
 /// last one of the table itself. The steps of nested tables come from the sections before. The placement
@@ -68,37 +68,34 @@ pub fn sections_by<
 >(
     rt: &R,
     alloc: Global,
-    table: &Table,
-    style: Style,
-    width: u32,
+    subject: &Subject,
     budget: u32,
     workers: u32,
     solve: &F,
     gate: &G,
 ) -> Result<LaidSections, AllocError>
     requires workers { 1 ≤ workers }
-    requires sound { IsSound table.now }
-    requires narrow { width ≤ MAX_PAGE_WIDTH }
-    requires wide { (least : ℕ) → IsLeastWidth table.now style least → least ≤ width }
+    requires subject { IsSubject subject.now }
+    requires wide { IsWideEnough subject.now }
     requires cuts { budget ≤ MAX_BUDGET }
     requires callable { SearchesEach F.Fn solve.now budget }
     requires solves { SolvesEach F.Fn solve.now budget }
-    ensures expected { IfOk result (λ laid. AreSectionsOf (GivesOutcome F.Fn solve.now budget) table.now style width budget
-        laid.sections) }
+    ensures expected { IfOk result (λ laid. AreSectionsOf (GivesOutcome F.Fn solve.now budget) subject.now.table.now
+        subject.now.style subject.now.page budget laid.sections) }
     ensures writable { IfOk result (λ laid. AreWritable laid.sections) }
-    ensures placed { IfOk result (λ laid. IsLastPlacement table.now style width laid.sections laid.placed) }
+    ensures placed { IfOk result (λ laid. IsLastPlacement subject.now.table.now subject.now.style subject.now.page
+        laid.sections laid.placed) }
 {
     sections_give_sound_problems();
-    let subject = Subject::of(alloc, table, style, width)?;
-    let found = nested_sections(rt, alloc, gate, workers, &subject, budget, solve)?;
+    let found = nested_sections(rt, alloc, gate, workers, subject, budget, solve)?;
     let Begun {
         mut sections,
         mut due,
-    } = begin(alloc, &subject, found);
+    } = begin(alloc, subject, found);
     loop {
         let Found { section, placed } = search(
             alloc,
-            &subject,
+            subject,
             due,
             budget,
             solve,

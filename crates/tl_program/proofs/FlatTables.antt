@@ -1,14 +1,13 @@
 -- Tables in whose cells none is nested: two that are the same are one value, as they have no box.
-use Rattle.std.proofs.Common.{◌≡◌, ◌∙◌, ℕ, List, [], ◌∷◌, ◌++◌, length, refl, sym, ap, ap₂, arith}
+use Rattle.std.proofs.Common.{◌≡◌, ◌∙◌, List, [], ◌∷◌, ◌++◌, length, refl, sym, ap, ap₂, arith}
 use Rattle.std.specs.List.{AllZip, flat_map}
-use Rattle.std.proofs.lemmas.List.{length-append}
 use Rattle.std.proofs.lemmas.List.Concat.{flat_map-cons}
 use Rattle.tl_table.specs.declared.cell.Content.{Content, out-Content, roll-Content, roll-out-Content}
 use Rattle.tl_table.specs.declared.cell.Content.TheOpen as open_content
 use Rattle.tl_table.specs.declared.cell.Table.{Table, out-Table, roll-Table, roll-out-Table}
 use Rattle.tl_table.specs.declared.cell.TableCell.{TableCell, out-TableCell, roll-TableCell, roll-out-TableCell}
 use Rattle.tl_table.specs.Same.{AreSame, AreSameBy, AreSameCell, AreSameContent}
-use Rattle.tl_table.specs.Tables.{OpenCell, OpenContent, OpenTable, inner_tables, tables_in, tables_of}
+use Rattle.tl_table.specs.Tables.{OpenContent, inner_tables, tables_in, tables_of}
 use Rattle.tl_table.proofs.SameTables.{same_opened}
 
 -- ---- lists that are joined to none

@@ -18,20 +18,17 @@ use Rattle.tl_program.specs.declared.report.Report.TheVariants as reports
 use Rattle.tl_narrow.specs.Slimmest.{IsBelowCounts}
 use Rattle.tl_program.specs.declared.task.Task.{Task}
 use Rattle.tl_program.specs.Answers.{budget_in, reach}
-use Rattle.tl_program.specs.Asks.{IsAskOf, input_name, page_name}
-use Rattle.tl_program.specs.Change.{Change, Holds, with_all}
+use Rattle.tl_program.specs.Asks.{IsAskOf, input_name}
+use Rattle.tl_program.specs.Change.{Change, with_all}
 use Rattle.tl_program.specs.Complete.{ShowsFile}
-use Rattle.tl_program.specs.Deliveries.{Delivery}
 use Rattle.tl_program.specs.Headline.{Ends}
 use Rattle.tl_program.specs.Messages.{status_number, status_of, message_of}
 use Rattle.tl_program.specs.Narrowest.{FindsWidth, HoldsNone, IsNarrowest, IsSoundTableOf, StoresBetween, StoresLowPage, StoresNarrowest}
 use Rattle.tl_program.specs.Narrowest.{RefusesSlim, StoresWiderPage}
-use Rattle.tl_program.specs.Slimmed.{IsPageOfKept, IsSlimIn, IsSlimmed, found_width}
-use Rattle.tl_program.specs.Tasks.{given_or, style_of, breaking_of, source_of, slim_task}
+use Rattle.tl_program.specs.Slimmed.{IsSlimIn, IsSlimmed, found_width}
+use Rattle.tl_program.specs.Tasks.{style_of, slim_task}
 use Rattle.tl_program.proofs.Asking.{names_asked}
 use Rattle.tl_program.proofs.Ends.{own_input, refused_by, went}
-use Rattle.tl_program.proofs.Lowest.{same_breaks, whole_page}
-use Rattle.tl_program.proofs.NamedFiles.{text_there}
 use Rattle.tl_program.proofs.PagesStored.{can_be_spelt, page_stored, table_of_bytes}
 use Rattle.tl_program.proofs.SlimRuns.{IsReported, SlimRun, between, is_reported, met, past, slim_run}
 

@@ -1,8 +1,8 @@
 -- Of a table in whose cells none is nested, a layout has one page: each paragraph has one greedy cutting, and else the page is
 -- drawn by a function.
-use Rattle.std.proofs.Common.{◌≡◌, ◌≢◌, ◌∙◌, ◌⊎◌, inl, inr, ℕ, zero, suc, ◌+◌, ◌<◌, ◌≤◌, List, [], ◌∷◌, ◌++◌, get_or, length, map, refl, sym, ap, ap₂, subst}
-use Rattle.std.proofs.Common.{append-nil, arith}
-use Rattle.std.specs.Prelude.{Bool, true, false, drop, sum_by, take}
+use Rattle.std.proofs.Common.{◌≡◌, ◌≢◌, ◌∙◌, ℕ, zero, suc, ◌<◌, ◌≤◌, List, [], ◌∷◌, ◌++◌, get_or, length, map, refl, sym, ap, ap₂, subst}
+use Rattle.std.proofs.Common.{arith}
+use Rattle.std.specs.Prelude.{drop}
 use Rattle.std.specs.List.{AllByRecursion, AllZip, flat_map}
 use Rattle.std.proofs.lemmas.List.{length-append}
 use Rattle.std.proofs.lemmas.List.Concat.{flat_map-cons}
@@ -11,13 +11,13 @@ use Rattle.tl_base.specs.declared.style.Style.{Style}
 use Rattle.tl_base.proofs.Members.{AllByRecursion-suffix}
 use Rattle.tl_text.specs.declared.paragraph.Atom.{Atom}
 use Rattle.tl_text.specs.Paragraph.{gap_before, lined_pieces, unit_width}
-use Rattle.tl_text.specs.Cuttings.{FillsLines, HoldsIn, IsCutting, IsGreedyCutting, IsPieceCut, joined, line_width}
+use Rattle.tl_text.specs.Cuttings.{FillsLines, HoldsIn, IsGreedyCutting, IsPieceCut, joined, line_width}
 use Rattle.tl_table.specs.declared.cell.Content.{Content, out-Content}
 use Rattle.tl_table.specs.declared.cell.Content.TheOpen as open_content
 use Rattle.tl_table.specs.declared.cell.Table.{Table, out-Table}
 use Rattle.tl_table.specs.declared.cell.TableCell.{TableCell, out-TableCell}
 use Rattle.tl_table.specs.declared.layout.Layout.{Layout, out-Layout}
-use Rattle.tl_table.specs.Tables.{OpenCell, OpenContent, inner_tables, tables_of}
+use Rattle.tl_table.specs.Tables.{OpenContent, inner_tables, tables_of}
 use Rattle.tl_table.specs.Layouts.{OpenLayout, width_for}
 use Rattle.tl_page.specs.declared.line.Line.{Line}
 use Rattle.tl_page.specs.Pages.{AreParagraphLines, IsPage, ShowsBlock, ShowsBy, ShowsCell, ShowsWithin, grid_of, line_from}

@@ -1,6 +1,6 @@
 -- Two runs of `tidy` with status 0 on one table, in whose cells none is nested, store the same page: it has one problem on the
 -- narrowest page, this one chosen placement, which gives one layout, and that one page.
-use Rattle.std.proofs.Common.{◌≡◌, ◌∙◌, inl, inr, ℕ, zero, suc, ◌+◌, ◌-◌, ◌≤◌, Bool, true, false, List, [], ◌∷◌, length, get_or, take, Option, Some, None}
+use Rattle.std.proofs.Common.{◌≡◌, ◌∙◌, inl, inr, ℕ, zero, suc, ◌+◌, ◌-◌, Bool, true, false, List, [], ◌∷◌, length, get_or, take, Option, Some}
 use Rattle.std.proofs.Common.{◌++◌, Contains, refl, sym, ap, ap₂, subst, arith}
 use Rattle.std.specs.Prelude.{MatchOption}
 use Rattle.std.specs.List.{AllZip, flat_map}
@@ -22,11 +22,9 @@ use Rattle.tl_table.specs.declared.cell.TableCell.{TableCell, out-TableCell}
 use Rattle.tl_table.specs.declared.layout.Layout.{Layout, out-Layout, roll-Layout, roll-out-Layout}
 use Rattle.tl_table.specs.Layouts.{OpenLayout, width_for}
 use Rattle.tl_table.specs.Least.{IsLeastHeight}
-use Rattle.tl_table.specs.Same.{AreSame}
 use Rattle.tl_table.specs.Sound.{IsSound}
-use Rattle.tl_table.specs.Tables.{IsAmong, IsInsideWithin, OpenTable, inner_tables, tables_in}
+use Rattle.tl_table.specs.Tables.{IsAmong, IsInsideWithin, inner_tables, tables_in}
 use Rattle.tl_form.specs.declared.heights.InnerSteps.{InnerSteps}
-use Rattle.tl_form.specs.Expected.{Document}
 use Rattle.tl_form.specs.Named.{AreLaidIn, IsLaidWithin, IsNamed}
 use Rattle.tl_form.specs.Named as layouts
 use Rattle.tl_form.specs.Nested.{AreInnerSteps, AreStepsBy, IsProblemFor}
@@ -50,7 +48,6 @@ use Rattle.tl_html.specs.Html as html
 use Rattle.tl_program.proofs.ChosenLaid as laid
 use Rattle.tl_program.specs.declared.report.Report.{Report}
 use Rattle.tl_program.specs.declared.report.Report.TheVariants as reports
-use Rattle.tl_program.specs.declared.task.Task.{Task}
 use Rattle.tl_program.specs.Alike.{BeginAlike, HasNoNested, PrintAlike, SpellsFlat, TidyAlike, but_effort}
 use Rattle.tl_program.specs.Answers.{IsPageFile, budget_in, reach}
 use Rattle.tl_program.specs.Asks.{IsAskOf, input_name, page_name}
@@ -62,7 +59,7 @@ use Rattle.tl_program.specs.Messages.{message_of, status_number, status_of}
 use Rattle.tl_program.specs.Narrowest.{IsSoundTableOf}
 use Rattle.tl_program.specs.Slimmed.{IsPageOfKept, IsSlimPage}
 use Rattle.tl_program.specs.Tasks.{source_of, style_of, task_of}
-use Rattle.tl_program.specs.Tidied.{IsMet, IsOwnProblem, IsTidied, IsTidyEnd, IsTrimmed, IsTrimmedTo, chosen, laid_with, left_open, may_be_narrower}
+use Rattle.tl_program.specs.Tidied.{IsTidied, IsTidyEnd, IsTrimmed, IsTrimmedTo, chosen, laid_with, left_open, may_be_narrower}
 use Rattle.tl_program.proofs.Asking.{names_asked}
 use Rattle.tl_program.proofs.Ends.{same_bytes}
 use Rattle.tl_program.proofs.FlatTables.{AreFlatCells, flat_cell, flat_cells, one_table}

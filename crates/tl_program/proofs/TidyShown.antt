@@ -3,7 +3,6 @@ use Rattle.std.proofs.Common.{◌≡◌, ◌≢◌, ◌⊎◌, inl, inr, ℕ, �
 use Rattle.std.proofs.Common.{refl, sym, ap, subst, ◌∙◌, arith}
 use Rattle.std.specs.Prelude.{Bool, MatchOption, is_some}
 use Rattle.std.specs.List.{AllPairs, slice_get}
-use Rattle.tl_base.specs.Desk.{Files}
 use Rattle.tl_cert.specs.declared.certificate.Certificate.{Certificate}
 use Rattle.tl_cert.specs.declared.certificate.Claim.TheVariants as claims
 use Rattle.tl_cert.specs.Text.{cert_text}
@@ -12,7 +11,7 @@ use Rattle.tl_table.specs.declared.cell.Table.{Table}
 use Rattle.tl_narrow.specs.declared.slim.Slim.{Slim}
 use Rattle.tl_narrow.specs.Slims.{IsHighCertificate, IsKept, IsLess, IsLowCertificate, IsSlim, IsSpentBetween, IsSpentCertificate, trial_between}
 use Rattle.tl_program.specs.declared.answer.Answer.{Answer}
-use Rattle.tl_program.specs.Answers.{IsReadBack, IsWritten, budget_in, certificate_file}
+use Rattle.tl_program.specs.Answers.{IsReadBack, IsWritten, certificate_file}
 use Rattle.tl_program.specs.Change.{Change, Holds, with_all}
 use Rattle.tl_program.specs.Deliveries.{delivery_of}
 use Rattle.tl_program.specs.Slimmed.{AreSlimTexts, IsReadBackAt, files_of, is_named_at, text_at}

@@ -1,5 +1,5 @@
 -- What a run of `tidy` with status 3 has left open, that of one with status 4 no layout fits, and which status it is.
-use Rattle.std.proofs.Common.{◌≡◌, ◌≢◌, ◌⊎◌, inl, inr, ℕ, zero, suc, ◌+◌, ◌-◌, ◌/◌, ◌<◌, ◌≤◌, List, Some}
+use Rattle.std.proofs.Common.{◌≡◌, ◌≢◌, ◌⊎◌, inl, inr, ℕ, ◌+◌, ◌-◌, ◌/◌, ◌<◌, ◌≤◌, List, Some}
 use Rattle.std.proofs.Common.{refl, sym, ap, subst, ◌∙◌, arith}
 use Rattle.std.specs.Prelude.{Bool, if◌then◌else◌}
 use Rattle.std.proofs.lemmas.Bool.{cases_order}
@@ -15,8 +15,6 @@ use Rattle.tl_command.specs.Ask.{Asked}
 use Rattle.tl_command.specs.Command.{IsNumberOf}
 use Rattle.tl_problem.specs.Problem.{ProblemModel}
 use Rattle.tl_table.specs.declared.cell.Table.{Table}
-use Rattle.tl_table.specs.declared.layout.Layout.{Layout}
-use Rattle.tl_table.specs.Layouts.{Fits}
 use Rattle.tl_form.specs.ClosedLaws.{BudgetCloses}
 use Rattle.tl_form.specs.CountLaws.{AllCountsRise, CountsExist, CountsRise}
 use Rattle.tl_narrow.specs.declared.slim.Slim.{Slim}
@@ -30,7 +28,7 @@ use Rattle.tl_program.specs.Answers.{IsLaidAs, IsWrittenBounded, bounded_laid, b
 use Rattle.tl_program.specs.declared.answer.Answer.{Answer}
 use Rattle.tl_program.specs.Asks.{IsAskOf, input_name}
 use Rattle.tl_program.specs.Change.{Change, with_all}
-use Rattle.tl_program.specs.Complete.{IsLaidStatus, ShowsFile}
+use Rattle.tl_program.specs.Complete.{ShowsFile}
 use Rattle.tl_program.specs.Deliveries.{Delivery}
 use Rattle.tl_program.specs.Headline.{Ends}
 use Rattle.tl_program.specs.Messages.{message_of, status_number, status_of}

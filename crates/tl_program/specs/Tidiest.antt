@@ -3,7 +3,7 @@
 -- and `TidyFitsNone` are clauses of `run`, for the statuses 0, 3 and 4, and so are the definitions below them, for which status it
 -- is, and for what a check says of the certificates. That the layout is the chosen one is said by how a run ends (specs/Tidied),
 -- and that no search changes it by `TidyAlike` (specs/Alike).
-use Rattle.std.specs.Prelude.{◌≡◌, ◌⊎◌, ℕ, ◌-◌, ◌<◌, ◌≤◌, List, Option, Some}
+use Rattle.std.specs.Prelude.{◌≡◌, ◌⊎◌, ℕ, ◌-◌, ◌<◌, ◌≤◌, List, Some}
 use Rattle.std.specs.List.{slice_get}
 use Rattle.tl_base.specs.Desk.{Files}
 use Rattle.tl_cert.specs.declared.certificate.Certificate.{Certificate}

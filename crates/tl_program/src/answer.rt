@@ -8,7 +8,7 @@ ghost use Rattle.tl_table.specs.Least.{IsLeastWidth};
 ghost use Rattle.tl_form.specs.Expected.{IsDocumentOf};
 ghost use Rattle.tl_form.specs.Named.{IsLastPlacement};
 ghost use Rattle.tl_table.specs.Sound.{IsSound};
-ghost use Rattle.tl_form.specs.Subjects.{meant};
+ghost use Rattle.tl_form.specs.Subjects.{AreByNumber, meant};
 ghost use Rattle.tl_program.specs.Answers.{IsPageFile, certificate_file, IsReadBack};
 ghost use Rattle.tl_program.specs.Answers.{IsLaidAs};
 ghost use Rattle.tl_program.specs.inner.Claims.{report_of};
@@ -59,7 +59,7 @@ pub fn answer_to<R: Threads + Sync, G: Gate>(
     if least > task.width {
         return too_narrow(alloc, task, &subject, budget, least);
     }
-    lowest(rt, alloc, task, table, budget, gate)
+    lowest(rt, alloc, task, &subject, budget, gate)
 }
 
 /// The chains that show that the page is too narrow.
@@ -93,44 +93,50 @@ fn lowest<R: Threads + Sync, G: Gate>(
     rt: &R,
     alloc: Global,
     task: &Task,
-    table: &Table,
+    subject: &Subject<'_>,
     budget: u32,
     gate: &G,
 ) -> Result<Answer, AllocError>
-    requires usable { IsUsableTable task.now table.now budget }
-    requires wide { (least : ℕ) → IsLeastWidth table.now task.now.style least → least ≤ task.now.width }
-    ensures { IfOk result (λ answer. IsLaidAs task.now table.now answer answer.report) }
+    requires usable { IsUsableTable task.now subject.now.table.now budget }
+    requires subject { IsDocumentOf subject.now.table.now task.now.style task.now.width (meant subject.now) }
+    requires tables { AreByNumber subject.now }
+    requires wide { (least : ℕ) → IsLeastWidth subject.now.table.now task.now.style least → least ≤ task.now.width }
+    ensures { IfOk result (λ answer. IsLaidAs task.now subject.now.table.now answer answer.report) }
 {
     let FoundPage {
         certificate,
         placed,
-    } = found(rt, alloc, task, table, budget, gate)?;
-    laid(alloc, task, table, budget, &certificate, placed)
+    } = found(rt, alloc, task, subject, budget, gate)?;
+    laid(alloc, task, subject.table, budget, &certificate, placed)
 }
 
 /// The certificate of a search, with the placement that was found for its last section.
 #[derive(Drop)]
 pub struct FoundPage {
     pub certificate: Certificate,
+    /// The widths of the columns, in columns of text, and the heights of the rows, in lines.
     pub placed: Placed,
 }
 
-/// The certificate of the sections that the search finds on the page, with the placement of the last.
+/// The certificate of the sections that the search finds on the page, with the placement of the last. The
+/// subject is that of the task's style and width.
 pub fn found<R: Threads + Sync, G: Gate>(
     rt: &R,
     alloc: Global,
     task: &Task,
-    table: &Table,
+    subject: &Subject<'_>,
     budget: u32,
     gate: &G,
 ) -> Result<FoundPage, AllocError>
-    requires usable { IsUsableTable task.now table.now budget }
-    requires wide { (least : ℕ) → IsLeastWidth table.now task.now.style least → least ≤ task.now.width }
-    ensures found { IfOk result (λ page. IsFound task.now table.now budget page.certificate) }
-    ensures placed { IfOk result (λ page. IsLastPlacement table.now task.now.style task.now.width page.certificate.sections
-        page.placed) }
+    requires usable { IsUsableTable task.now subject.now.table.now budget }
+    requires subject { IsDocumentOf subject.now.table.now task.now.style task.now.width (meant subject.now) }
+    requires tables { AreByNumber subject.now }
+    requires wide { (least : ℕ) → IsLeastWidth subject.now.table.now task.now.style least → least ≤ task.now.width }
+    ensures found { IfOk result (λ page. IsFound task.now subject.now.table.now budget page.certificate) }
+    ensures placed { IfOk result (λ page. IsLastPlacement subject.now.table.now task.now.style task.now.width
+        page.certificate.sections page.placed) }
 {
-    let LaidSections { sections, placed } = searched(rt, alloc, task, table, budget, gate)?;
+    let LaidSections { sections, placed } = searched(rt, alloc, task, subject, budget, gate)?;
     let certificate = certificate_of(alloc, task.style, task.width, budget, sections);
     Ok(FoundPage {
         certificate,

@@ -1,14 +1,13 @@
 //! The searches that are named, as makers of solvers.
 
-ghost use Rattle.std.specs.Prelude.{◌≢◌, ◌≤◌, ℕ, IfOk, IfSome};
-ghost use Rattle.tl_base.specs.declared.limits.TheConstants.{MAX_BUDGET, MAX_PAGE_WIDTH};
+ghost use Rattle.std.specs.Prelude.{◌≢◌, ◌≤◌, IfOk, IfSome};
+ghost use Rattle.tl_base.specs.declared.limits.TheConstants.{MAX_BUDGET};
 ghost use Rattle.tl_astar.specs.Best.{IsBestOutcome};
 ghost use Rattle.tl_branch.specs.Learn.{IsLearnOutcome};
 ghost use Rattle.tl_solve.specs.Plain.{IsPlainOutcome};
 ghost use Rattle.tl_form.specs.Named.{IsLastPlacement};
-ghost use Rattle.tl_table.specs.Least.{IsLeastWidth};
-ghost use Rattle.tl_table.specs.Sound.{IsSound};
-ghost use Rattle.tl_nested.specs.Searched.{AreSectionsOf, AreWritable};
+ghost use Rattle.tl_form.specs.Subjects.{IsSubject};
+ghost use Rattle.tl_nested.specs.Searched.{AreSectionsOf, AreWritable, IsWideEnough};
 ghost use Rattle.tl_narrow.specs.Slims.{IsLowCertificate};
 ghost use Rattle.tl_program.specs.Answers.{IsOutcomeOf};
 ghost use Rattle.tl_program.specs.Slimmed.{IsSlimIn};
@@ -19,10 +18,11 @@ use crate::task::Task;
 use std::alloc::{AllocError, Global};
 use std::thread::Threads;
 use tl_astar::Best;
-use tl_base::{Gate, MAX_PAGE_WIDTH};
+use tl_base::Gate;
 use tl_branch::Learn;
 use tl_cert::Certificate;
 use tl_command::Search;
+use tl_form::Subject;
 use tl_narrow::{Slim, slimmest};
 use tl_nested::{LaidSections, Make, laid_sections};
 use tl_solve::Plain;
@@ -70,61 +70,32 @@ impl Make for MakeLearn {
     }
 }
 
-/// All sections of a certificate of the table, by the search that is named, with the placement that was found
-/// for the last of them.
+/// All sections of a certificate of the subject's table, by the search that is named, with the placement that
+/// was found for the last of them.
 pub fn searched<R: Threads + Sync, G: Gate>(
     rt: &R,
     alloc: Global,
     task: &Task,
-    table: &Table,
+    subject: &Subject<'_>,
     budget: u32,
     gate: &G,
 ) -> Result<LaidSections, AllocError>
-    requires sound { IsSound table.now }
-    requires narrow { task.now.width ≤ MAX_PAGE_WIDTH }
-    requires wide { (least : ℕ) → IsLeastWidth table.now task.now.style least → least ≤ task.now.width }
+    requires subject { IsSubject subject.now }
+    requires wide { IsWideEnough subject.now }
     requires cuts { budget ≤ MAX_BUDGET }
     requires workers { 1 ≤ task.now.workers }
-    ensures expected { IfOk result (λ laid. AreSectionsOf (IsOutcomeOf task.now.search task.now.workers budget) table.now
-        task.now.style task.now.width budget laid.sections) }
+    ensures expected { IfOk result (λ laid. AreSectionsOf (IsOutcomeOf task.now.search task.now.workers budget)
+        subject.now.table.now subject.now.style subject.now.page budget laid.sections) }
     ensures writable { IfOk result (λ laid. AreWritable laid.sections) }
-    ensures placed { IfOk result (λ laid. IsLastPlacement table.now task.now.style task.now.width laid.sections laid.placed) }
+    ensures placed { IfOk result (λ laid. IsLastPlacement subject.now.table.now subject.now.style subject.now.page
+        laid.sections laid.placed) }
 {
+    let workers = task.workers;
     match task.search {
-        Search::Plain => laid_sections(
-            rt,
-            alloc,
-            table,
-            task.style,
-            task.width,
-            budget,
-            task.workers,
-            &MakePlain,
-            gate,
-        ),
-        Search::Best => laid_sections(
-            rt,
-            alloc,
-            table,
-            task.style,
-            task.width,
-            budget,
-            task.workers,
-            &MakeBest,
-            gate,
-        ),
-        Search::Learn => laid_sections(
-            rt,
-            alloc,
-            table,
-            task.style,
-            task.width,
-            budget,
-            task.workers,
-            &MakeLearn,
-            gate,
-        ),
-        Search::Rounds => sections_in_rounds(rt, alloc, task, table, budget, gate),
+        Search::Plain => laid_sections(rt, alloc, subject, budget, workers, &MakePlain, gate),
+        Search::Best => laid_sections(rt, alloc, subject, budget, workers, &MakeBest, gate),
+        Search::Learn => laid_sections(rt, alloc, subject, budget, workers, &MakeLearn, gate),
+        Search::Rounds => sections_in_rounds(rt, alloc, subject, budget, workers, gate),
     }
 }
 

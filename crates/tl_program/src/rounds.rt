@@ -10,7 +10,8 @@ ghost use Rattle.tl_rounds.specs.Outcomes.{IsRoundsOutcome};
 ghost use Rattle.tl_form.specs.Named.{IsLastPlacement};
 ghost use Rattle.tl_table.specs.Least.{IsLeastWidth};
 ghost use Rattle.tl_table.specs.Sound.{IsSound};
-ghost use Rattle.tl_nested.specs.Searched.{AreSectionsOf, AreWritable};
+ghost use Rattle.tl_form.specs.Subjects.{IsSubject};
+ghost use Rattle.tl_nested.specs.Searched.{AreSectionsOf, AreWritable, IsWideEnough};
 ghost use Rattle.tl_narrow.specs.Slims.{IsLowCertificate};
 ghost use Rattle.tl_program.specs.Answers.{IsOutcomeOf};
 ghost use Rattle.tl_program.specs.Slimmed.{IsSlimIn};
@@ -22,6 +23,7 @@ use std::thread::Threads;
 use tl_base::{Gate, MAX_BUDGET, MAX_PAGE_WIDTH};
 use tl_branch::MakeLearnPiece;
 use tl_cert::Certificate;
+use tl_form::Subject;
 use tl_narrow::{Slim, slimmest};
 use tl_nested::{LaidSections, Make, laid_sections};
 use tl_problem::{Problem, Zone};
@@ -49,35 +51,34 @@ impl<'f, F: Fn(&Problem, &[Zone], u32, u32) -> Result<Vec<Piece>, AllocError> + 
     }
 }
 
-/// All sections of a certificate of the table, by searches in rounds, with the placement that was found for
-/// the last of them.
+/// All sections of a certificate of the subject's table, by searches in rounds, with the placement that was
+/// found for the last of them.
 pub fn sections_in_rounds<R: Threads + Sync, G: Gate>(
     rt: &R,
     alloc: Global,
-    task: &Task,
-    table: &Table,
+    subject: &Subject<'_>,
     budget: u32,
+    workers: u32,
     gate: &G,
 ) -> Result<LaidSections, AllocError>
-    requires sound { IsSound table.now }
-    requires narrow { task.now.width ≤ MAX_PAGE_WIDTH }
-    requires wide { (least : ℕ) → IsLeastWidth table.now task.now.style least → least ≤ task.now.width }
+    requires subject { IsSubject subject.now }
+    requires wide { IsWideEnough subject.now }
     requires cuts { budget ≤ MAX_BUDGET }
-    requires workers { 1 ≤ task.now.workers }
-    ensures expected { IfOk result (λ laid. AreSectionsOf (IsOutcomeOf kinds.Rounds task.now.workers budget) table.now
-        task.now.style task.now.width budget laid.sections) }
+    requires workers { 1 ≤ workers }
+    ensures expected { IfOk result (λ laid. AreSectionsOf (IsOutcomeOf kinds.Rounds workers budget) subject.now.table.now
+        subject.now.style subject.now.page budget laid.sections) }
     ensures writable { IfOk result (λ laid. AreWritable laid.sections) }
-    ensures placed { IfOk result (λ laid. IsLastPlacement table.now task.now.style task.now.width laid.sections laid.placed) }
+    ensures placed { IfOk result (λ laid. IsLastPlacement subject.now.table.now subject.now.style subject.now.page
+        laid.sections laid.placed) }
 {
     let fan = |problem: &Problem, zones: &[Zone], best: u32, quota: u32| -> Result<
         Vec<Piece>,
         AllocError,
     >
-        requires { (1 ≤ task.now.workers) × All (IsZone problem.now) zones.now × (length zones.now < 2 ^ 32)
+        requires { (1 ≤ workers) × All (IsZone problem.now) zones.now × (length zones.now < 2 ^ 32)
             × (1 ≤ quota) × (quota ≤ MAX_BUDGET) }
         ensures { IfOk result (λ pieces. ArePiecesOf problem.now zones.now best quota pieces.items) }
     {
-        let workers = task.workers;
         pieces_at_once(
             rt,
             alloc,
@@ -90,7 +91,7 @@ pub fn sections_in_rounds<R: Threads + Sync, G: Gate>(
             quota,
         )
     };
-    sections_with(rt, alloc, task, table, budget, &fan, gate)
+    sections_with(rt, alloc, subject, budget, workers, &fan, gate)
 }
 
 /// The same, where each round is searched by a call of `fan`.
@@ -101,28 +102,25 @@ fn sections_with<
 >(
     rt: &R,
     alloc: Global,
-    task: &Task,
-    table: &Table,
+    subject: &Subject<'_>,
     budget: u32,
+    workers: u32,
     fan: &F,
     gate: &G,
 ) -> Result<LaidSections, AllocError>
     requires fan { IsFan F.Fn fan.now }
-    requires sound { IsSound table.now }
-    requires narrow { task.now.width ≤ MAX_PAGE_WIDTH }
-    requires wide { (least : ℕ) → IsLeastWidth table.now task.now.style least → least ≤ task.now.width }
+    requires subject { IsSubject subject.now }
+    requires wide { IsWideEnough subject.now }
     requires cuts { budget ≤ MAX_BUDGET }
-    requires workers { 1 ≤ task.now.workers }
-    ensures expected { IfOk result (λ laid. AreSectionsOf (IsOutcomeOf kinds.Rounds task.now.workers budget) table.now
-        task.now.style task.now.width budget laid.sections) }
+    requires workers { 1 ≤ workers }
+    ensures expected { IfOk result (λ laid. AreSectionsOf (IsOutcomeOf kinds.Rounds workers budget) subject.now.table.now
+        subject.now.style subject.now.page budget laid.sections) }
     ensures writable { IfOk result (λ laid. AreWritable laid.sections) }
-    ensures placed { IfOk result (λ laid. IsLastPlacement table.now task.now.style task.now.width laid.sections laid.placed) }
+    ensures placed { IfOk result (λ laid. IsLastPlacement subject.now.table.now subject.now.style subject.now.page
+        laid.sections laid.placed) }
 {
-    let workers = task.workers;
     let maker = MakeRounds { workers, fan };
-    laid_sections(
-        rt, alloc, table, task.style, task.width, budget, workers, &maker, gate,
-    )
+    laid_sections(rt, alloc, subject, budget, workers, &maker, gate)
 }
 
 /// Between which widths the narrowest page of at most `height` lines is, among those of up to as many columns

@@ -75,10 +75,11 @@ fn summary_of<R: Threads + Sync, G: Gate>(
     ensures { IfOk result (IsSummaryOf table.now) }
 {
     let task = task();
+    let subject = Subject::of(alloc, table, task.style, task.width)?;
     let LaidSections {
         sections,
         placed: _placed,
-    } = searched(rt, alloc, &task, table, DEMO_BUDGET, gate)?;
+    } = searched(rt, alloc, &task, &subject, DEMO_BUDGET, gate)?;
     let certificate = certificate_of(alloc, task.style, task.width, DEMO_BUDGET, sections);
     // The certificate is valid, so it is refused only where memory runs out.
     if verify(

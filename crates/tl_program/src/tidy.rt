@@ -28,7 +28,7 @@ use std::thread::Threads;
 use tl_base::{Desk, Gate, List};
 use tl_cert::{Certificate, Claim};
 use tl_command::Ask;
-use tl_form::lay;
+use tl_form::{Subject, lay};
 use tl_narrow::Slim;
 use tl_table::{Table, least_width};
 use tl_tidy::{Choice, choose, steps_agree};
@@ -115,10 +115,11 @@ fn tidied_on<R: Threads + Sync, G: Gate>(
     requires wide { (least : ℕ) → IsLeastWidth table.now task.now.style least → least ≤ task.now.width }
     ensures { IfOk result (IsTidiedAs (asked_by ask.now) task.now table.now) }
 {
+    let subject = Subject::of(alloc, table, task.style, task.width)?;
     let FoundPage {
         certificate,
         placed,
-    } = found(rt, alloc, task, table, budget, gate)?;
+    } = found(rt, alloc, task, &subject, budget, gate)?;
     match certificate.claim {
         Claim::Lowest(height) => {
             let answer = trimmed(

@@ -8,7 +8,7 @@ use Rattle.tl_nested.proofs.make.laid_sections.Goals as goal
 pub returns-clause-expected : goal.returns-clause-expected
 returns-clause-expected g c = ok_weaker c.sections_by.result _
     (λ (laid : LaidSections). AreSectionsOf (λ problem outcome. g.M.Make.besides c.args.maker.now problem c.args.budget outcome)
-    c.args.table.now c.args.style c.args.width c.args.budget laid.sections)
+    c.args.subject.now.table.now c.args.subject.now.style c.args.subject.now.page c.args.budget laid.sections)
     (λ laid. sections_more _ (λ problem outcome. g.M.Make.besides c.args.maker.now problem c.args.budget outcome)
     (λ problem outcome is. subst (λ p. g.M.Make.besides c.args.maker.now p c.args.budget outcome) is.argument_is is.call.1)
-    c.args.table.now c.args.style c.args.width c.args.budget laid.sections) c.sections_by.ensures.expected
+    c.args.subject.now.table.now c.args.subject.now.style c.args.subject.now.page c.args.budget laid.sections) c.sections_by.ensures.expected

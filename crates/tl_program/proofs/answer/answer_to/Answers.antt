@@ -16,8 +16,9 @@ too_narrow-requires-clause-least g c =
 pub lowest-requires-clause-wide : goal.lowest-requires-clause-wide
 lowest-requires-clause-wide g c = λ lifetimes outlives least is.
     let task = c.args.task.now in
+    let own = subst (λ (table : Table). IsLeastWidth table task.style least) c.in_ok-subject.ensures.is.same is in
     let same : least ≡ c.index-least.result.now = IsLeastWidth-unique c.args.table.now task.style least c.index-least.result.now
-    is
+    own
     (own_first c.args.table.now task.style task.width c.in_ok-subject.subject c.index-least.result.now
     c.in_ok-subject.ensures.is c.index-least.ensures) in
     omega (arith, same, c.if-least-task.false)

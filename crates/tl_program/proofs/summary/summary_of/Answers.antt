@@ -1,5 +1,6 @@
 -- The numbers are those of a valid certificate.
 use Rattle.std.proofs.Common.{◌≡◌, ◌≤◌, ◌-◌, inl, ℕ, List, length, get_or, refl, sym, ap, subst, ◌∙◌, arith}
+use Rattle.tl_base.specs.declared.limits.TheConstants.{MAX_PAGE_WIDTH}
 use Rattle.tl_base.specs.declared.style.Style.TheVariants.{Plain}
 use Rattle.tl_cert.specs.declared.certificate.Certificate.{Certificate}
 use Rattle.tl_cert.specs.declared.section.Section.{Section}
@@ -15,13 +16,23 @@ use Rattle.tl_narrow.specs.Certified.{certificate_of}
 use Rattle.tl_program.specs.Demonstration.{before_last}
 use Rattle.tl_program.specs.inner.Summaries.{demo_task, HasOwnNext, IsCountAfter}
 use Rattle.tl_narrow.proofs.Certifying.{writable}
+use Rattle.tl_nested.proofs.Ready.{fits_of, subject_of}
 use Rattle.tl_program.proofs.Summing.{demo_sections, next_there, summary_made}
 use Rattle.tl_program.proofs.summary.summary_of.Goals as goal
 
+pub searched-requires-clause-subject : goal.searched-requires-clause-subject
+searched-requires-clause-subject g c κs within =
+    let task = c.task-task.result in
+    let narrow : task.width ≤ MAX_PAGE_WIDTH = omega (arith, ap (λ (t : Task). t.width) c.task-task.ensures) in
+    subject_of c.args.table.now task.style task.width c.in_ok-subject.subject c.requires.sound narrow c.in_ok-subject.ensures.is
+    c.in_ok-subject.ensures.tables
+
 pub searched-requires-clause-wide : goal.searched-requires-clause-wide
-searched-requires-clause-wide g c = λ lifetimes outlives.
-    subst (λ (t : Task). (least : ℕ) → IsLeastWidth c.args.table.now t.style least →
-    least ≤ t.width) (sym c.task-task.ensures) c.requires.wide
+searched-requires-clause-wide g c κs within =
+    let task = c.task-task.result in
+    fits_of c.args.table.now task.style task.width c.in_ok-subject.subject c.in_ok-subject.ensures.is
+    (subst (λ (t : Task). (least : ℕ) → IsLeastWidth c.args.table.now t.style least → least ≤ t.width) (sym c.task-task.ensures)
+    c.requires.wide)
 
 -- the search is that of the demonstration
 sections_are : (table : _) (task : Task) (sections : List Section) → task ≡ demo_task →
@@ -38,7 +49,9 @@ made_of task certificate sections same made = made ∙ ap (λ (t : Task). certif
 pub verify-requires-clause-written : goal.verify-requires-clause-written
 verify-requires-clause-written g c = λ lifetimes outlives.
     let sections = c.in_ok-sections.field-0.sections in
-    let are = sections_are c.args.table.now c.task-task.result sections c.task-task.ensures c.in_ok-sections.ensures.expected in
+    let of = c.in_ok-subject.ensures.is in
+    let are = sections_are c.args.table.now c.task-task.result sections c.task-task.ensures
+    (rw (of.same, of.drawn, of.wide) at c.in_ok-sections.ensures.expected) in
     let made = made_of c.task-task.result c.certificate_of-certificate.result sections c.task-task.ensures
     c.certificate_of-certificate.ensures in
     subst IsWritable (sym made)
@@ -52,7 +65,9 @@ overflow_cast-result g c = omega (arith, c.len.ensures, c.requires.cells c.args.
 pub count_after-requires-clause-good : goal.count_after-requires-clause-good
 count_after-requires-clause-good g c =
     let sections = c.in_ok-sections.field-0.sections in
-    let are = sections_are c.args.table.now c.task-task.result sections c.task-task.ensures c.in_ok-sections.ensures.expected in
+    let of = c.in_ok-subject.ensures.is in
+    let are = sections_are c.args.table.now c.task-task.result sections c.task-task.ensures
+    (rw (of.same, of.drawn, of.wide) at c.in_ok-sections.ensures.expected) in
     let made = made_of c.task-task.result c.certificate_of-certificate.result sections c.task-task.ensures
     c.certificate_of-certificate.ensures in
     subst (λ (all : List Section). HasOwnNext c.args.table.now (before_last all)) (sym c.as_slice-sections.ensures)
@@ -62,7 +77,9 @@ count_after-requires-clause-good g c =
 pub returns : goal.returns
 returns g c =
     let sections = c.in_ok-sections.field-0.sections in
-    let are = sections_are c.args.table.now c.task-task.result sections c.task-task.ensures c.in_ok-sections.ensures.expected in
+    let of = c.in_ok-subject.ensures.is in
+    let are = sections_are c.args.table.now c.task-task.result sections c.task-task.ensures
+    (rw (of.same, of.drawn, of.wide) at c.in_ok-sections.ensures.expected) in
     let made = made_of c.task-task.result c.certificate_of-certificate.result sections c.task-task.ensures
     c.certificate_of-certificate.ensures in
     let section = c.index-sections-own.result in
