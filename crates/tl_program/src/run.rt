@@ -34,8 +34,8 @@ use tl_command::{Ask, Command};
 use tl_form::{all_counts_rise, budget_closes, counts_exist, counts_rise};
 use tl_narrow::{kept_has_slimmest, met_is_slimmest, slimmest_is_no_less};
 
-/// Carries out the arguments of the command line over the desk, and returns the exit status. The gate
-/// is for pieces of work that run in parallel; `run` has none.
+/// Carries out the arguments of the command line over the desk, and returns the exit status; where memory
+/// runs out that is 9. Each piece of work that workers do at one time passes the gate once, before it begins.
 pub fn run<R: Threads + Sync, D: Desk, G: Gate>(
     rt: &R,
     alloc: Global,
@@ -43,56 +43,31 @@ pub fn run<R: Threads + Sync, D: Desk, G: Gate>(
     desk: &mut D,
     gate: &G,
 ) -> u8
-    ensures lowest { StoresLowest (map string_bytes words.now)
-        (between D.Desk desk.old desk.new) result }
-    ensures bounded { StoresBounded (map string_bytes words.now)
-        (between D.Desk desk.old desk.new) result }
-    ensures narrow { FitsNone (map string_bytes words.now)
-        (between D.Desk desk.old desk.new) result }
-    ensures narrowest { StoresNarrowest (map string_bytes words.now)
-        (between D.Desk desk.old desk.new) result }
-    ensures between { StoresBetween (map string_bytes words.now)
-        (between D.Desk desk.old desk.new) result }
-    ensures too_tall { HoldsNone (map string_bytes words.now)
-        (between D.Desk desk.old desk.new) result }
-    ensures tidy { StoresTidy (map string_bytes words.now)
-        (between D.Desk desk.old desk.new) result }
-    ensures untidy { StoresUntidy (map string_bytes words.now)
-        (between D.Desk desk.old desk.new) result }
-    ensures tidy_narrow { TidyFitsNone (map string_bytes words.now)
-        (between D.Desk desk.old desk.new) result }
-    ensures ends { Ends (map string_bytes words.now)
-        (between D.Desk desk.old desk.new) result }
-    ensures complete { IsComplete (map string_bytes words.now)
-        (between D.Desk desk.old desk.new) result }
-    ensures refused { IsRefusedSo (map string_bytes words.now)
-        (between D.Desk desk.old desk.new) result }
-    ensures accepted { IsAcceptedSo (map string_bytes words.now)
-        (between D.Desk desk.old desk.new) result }
-    ensures rejected { IsRejectedSo (map string_bytes words.now)
-        (between D.Desk desk.old desk.new) result }
-    ensures accepts_laid { AcceptsLaid (map string_bytes words.now)
-        (between D.Desk desk.old desk.new) result }
-    ensures finds { FindsWidth (map string_bytes words.now)
-        (between D.Desk desk.old desk.new) result }
-    ensures refuses_slim { RefusesSlim (map string_bytes words.now)
-        (between D.Desk desk.old desk.new) result }
-    ensures accepts_slim { AcceptsSlim (map string_bytes words.now)
-        (between D.Desk desk.old desk.new) result }
-    ensures finds_tidy { FindsTidy (map string_bytes words.now)
-        (between D.Desk desk.old desk.new) result }
-    ensures refuses_tidy { RefusesTidy (map string_bytes words.now)
-        (between D.Desk desk.old desk.new) result }
-    ensures accepts_tidy { AcceptsTidy (map string_bytes words.now)
-        (between D.Desk desk.old desk.new) result }
-    ensures checks_alike { ChecksAlike (map string_bytes words.now)
-        (between D.Desk desk.old desk.new) result }
-    ensures refusals_alike { RefusalsAlike (map string_bytes words.now)
-        (between D.Desk desk.old desk.new) result }
-    ensures tidy_alike { TidyAlike (map string_bytes words.now)
-        (between D.Desk desk.old desk.new) result }
-    ensures lowest_alike { LowestAlike (map string_bytes words.now)
-        (between D.Desk desk.old desk.new) result }
+    ensures lowest { StoresLowest (map string_bytes words.now) (between D.Desk desk.old desk.new) result }
+    ensures bounded { StoresBounded (map string_bytes words.now) (between D.Desk desk.old desk.new) result }
+    ensures narrow { FitsNone (map string_bytes words.now) (between D.Desk desk.old desk.new) result }
+    ensures narrowest { StoresNarrowest (map string_bytes words.now) (between D.Desk desk.old desk.new) result }
+    ensures between { StoresBetween (map string_bytes words.now) (between D.Desk desk.old desk.new) result }
+    ensures too_tall { HoldsNone (map string_bytes words.now) (between D.Desk desk.old desk.new) result }
+    ensures tidy { StoresTidy (map string_bytes words.now) (between D.Desk desk.old desk.new) result }
+    ensures untidy { StoresUntidy (map string_bytes words.now) (between D.Desk desk.old desk.new) result }
+    ensures tidy_narrow { TidyFitsNone (map string_bytes words.now) (between D.Desk desk.old desk.new) result }
+    ensures ends { Ends (map string_bytes words.now) (between D.Desk desk.old desk.new) result }
+    ensures complete { IsComplete (map string_bytes words.now) (between D.Desk desk.old desk.new) result }
+    ensures refused { IsRefusedSo (map string_bytes words.now) (between D.Desk desk.old desk.new) result }
+    ensures accepted { IsAcceptedSo (map string_bytes words.now) (between D.Desk desk.old desk.new) result }
+    ensures rejected { IsRejectedSo (map string_bytes words.now) (between D.Desk desk.old desk.new) result }
+    ensures accepts_laid { AcceptsLaid (map string_bytes words.now) (between D.Desk desk.old desk.new) result }
+    ensures finds { FindsWidth (map string_bytes words.now) (between D.Desk desk.old desk.new) result }
+    ensures refuses_slim { RefusesSlim (map string_bytes words.now) (between D.Desk desk.old desk.new) result }
+    ensures accepts_slim { AcceptsSlim (map string_bytes words.now) (between D.Desk desk.old desk.new) result }
+    ensures finds_tidy { FindsTidy (map string_bytes words.now) (between D.Desk desk.old desk.new) result }
+    ensures refuses_tidy { RefusesTidy (map string_bytes words.now) (between D.Desk desk.old desk.new) result }
+    ensures accepts_tidy { AcceptsTidy (map string_bytes words.now) (between D.Desk desk.old desk.new) result }
+    ensures checks_alike { ChecksAlike (map string_bytes words.now) (between D.Desk desk.old desk.new) result }
+    ensures refusals_alike { RefusalsAlike (map string_bytes words.now) (between D.Desk desk.old desk.new) result }
+    ensures tidy_alike { TidyAlike (map string_bytes words.now) (between D.Desk desk.old desk.new) result }
+    ensures lowest_alike { LowestAlike (map string_bytes words.now) (between D.Desk desk.old desk.new) result }
 {
     met_is_slimmest();
     slimmest_is_no_less();
