@@ -176,7 +176,8 @@ fn with_block(
 
 /// The layout of the table that the certificate names: the table is laid out by the last section, and a
 /// nested table in a room by the first of its sections with the least height among those whose
-/// placements the room holds. It fits the page of the certificate, with the height that is claimed.
+/// placements the room holds. It fits the page of the certificate, with the height that is claimed. The
+/// error is out of memory.
 pub fn layout(
     alloc: Global,
     table: &Table,
@@ -197,7 +198,7 @@ pub fn layout(
 }
 
 /// The same layout, with the placement of the last section, which a search has at hand: it is not found
-/// again from the section's widths.
+/// again from the section's widths. The error is out of memory.
 pub fn layout_with(
     alloc: Global,
     table: &Table,

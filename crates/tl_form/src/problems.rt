@@ -61,14 +61,14 @@ fn problem_cells(
         (AllZip (λ cell made. IsCellBy (NeedsBy Low inner.now) (NeedsBy High inner.now) page
         (out-TableCell cell) made) (out-Table table.now).cells)) }
 {
-    let mut cells = List::new(alloc);
+    let mut cells = Vec::with_capacity(alloc, table.cells.len())?;
     for cell in table.cells.as_slice() {
         let Some(made) = problem_cell(alloc, cell, page, inner)? else {
             return Ok(None);
         };
         cells.push(made)?;
     }
-    Ok(Some(cells))
+    Ok(Some(List::from_vec(cells)))
 }
 
 /// The problem of the table on a page of `width` columns, with these heights for the tables nested

@@ -143,12 +143,12 @@ fn contents(alloc: Global, flow: &[Block], breaking: Breaking) -> Result<List<Co
     ensures ok { IfOk result (BecomeContents (Becomes breaking) breaking flow.now) }
     ensures err { IfErr result (IsMemoryOr (Memory alloc_error) (AreRefused (tables_in_flow flow.now))) }
 {
-    let mut blocks = List::new(alloc);
+    let mut blocks = Vec::with_capacity(alloc, flow.len())?;
     for block in flow {
         let made = content(alloc, block, breaking)?;
         blocks.push(made)?;
     }
-    Ok(blocks)
+    Ok(List::from_vec(blocks))
 }
 
 /// The cell of a tree, at its place.

@@ -28,11 +28,11 @@ fn copied_atom(alloc: Global, atom: &Atom) -> Result<Atom, AllocError>
 fn copied_atoms(alloc: Global, atoms: &[Atom]) -> Result<List<Atom>, AllocError>
     ensures { IfOk result (λ copy. copy ≡ atoms.now) }
 {
-    let mut copy = List::new(alloc);
+    let mut copy = Vec::with_capacity(alloc, atoms.len())?;
     for atom in atoms {
         copy.push(copied_atom(alloc, atom)?)?;
     }
-    Ok(copy)
+    Ok(List::from_vec(copy))
 }
 
 /// A copy of the paragraph.

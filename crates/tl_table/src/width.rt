@@ -58,7 +58,7 @@ pub fn demands_of(alloc: Global, table: &Table, style: Style) -> Result<Vec<Dema
     ensures each { IfOk result (λ demands. AreDemandsOf style (out-Table table.now).cells demands.items) }
     ensures small { IfOk result (λ demands. AreSmallDemands demands.items (table_size table.now)) }
 {
-    let mut demands = Vec::new(alloc);
+    let mut demands = Vec::with_capacity(alloc, table.cells.len())?;
     for cell in table.cells.as_slice() {
         let width = cell_width(alloc, cell, style)?;
         demands.push(Demand {

@@ -35,8 +35,8 @@ loop-cell-preserved c =
     let i = c.loop-cell.cell-index in
     subst (λ made. AllZip (λ cell one. IsCellBy (NeedsBy Low c.args.inner.now) (NeedsBy High c.args.inner.now) c.args.page
     (out-TableCell cell) one)
-    (take (i + 1) cells) made) (sym c.in_ok-push.ensures.ok)
-    (cells-more c.args.inner.now c.args.page cells i c.cell-item.result c.loop-cell.cells c.in-Some.made
+    (take (i + 1) cells) made) (sym c.in_ok-push.ensures.items)
+    (cells-more c.args.inner.now c.args.page cells i c.cell-item.result c.loop-cell.cells.items c.in-Some.made
     (subst (λ items. c.loop-cell.cell-index < length items) c.as_slice-cell-items.ensures c.loop-cell-test.true)
     (subst (λ items. c.cell-item.result ≡ get_or items c.loop-cell.cell-index c.cell-item.result)
     c.as_slice-cell-items.ensures c.cell-item.is)
@@ -44,9 +44,10 @@ loop-cell-preserved c =
 
 pub returns : goal.returns
 returns c =
-    subst (λ cells. AllZip (λ cell made. IsCellBy (NeedsBy Low c.args.inner.now) (NeedsBy High c.args.inner.now) c.args.page
+    rw c.from_vec.ensures
+    (subst (λ cells. AllZip (λ cell made. IsCellBy (NeedsBy Low c.args.inner.now) (NeedsBy High c.args.inner.now) c.args.page
     (out-TableCell cell) made)
-    cells c.loop-cell.cells)
+    cells c.loop-cell.cells.items)
     (take_all c.loop-cell.cell-index (out-Table c.args.table.now).cells
     (subst (λ items. length items ≤ c.loop-cell.cell-index) c.as_slice-cell-items.ensures c.loop-cell-test.false))
-    c.loop-cell.invariant
+    c.loop-cell.invariant)

@@ -10,4 +10,4 @@ use Rattle.tl_form.proofs.problems.problem_cells.Given as goal
 abbrev pub invariant-loop-cell : goal.invariant-loop-cell
 invariant-loop-cell l =
     AllZip (λ cell made. IsCellBy (NeedsBy Low l.inner) (NeedsBy High l.inner) l.page (out-TableCell cell) made)
-    (take l.cell-index (out-Table l.table).cells) l.cells
+    (take l.cell-index (out-Table l.table).cells) l.cells.items

@@ -40,9 +40,9 @@ contents-content-requires t c = (
 pub contents-loop-block-preserved : goal.contents-loop-block-preserved
 contents-loop-block-preserved t c =
     subst (BecomeContents (Becomes c.args.breaking) c.args.breaking (take (c.loop-block.block-index + 1) c.args.flow.now))
-    (sym c.in_ok-push.ensures.ok)
+    (sym c.in_ok-push.ensures.items)
     (zip_more (λ block content. BecomesContent (Becomes c.args.breaking) c.args.breaking (out-Block block) (out-Content content))
-    c.args.flow.now c.loop-block.blocks c.loop-block.block-index c.block-item.result c.in_ok-made.made c.loop-block-test.true
+    c.args.flow.now c.loop-block.blocks.items c.loop-block.block-index c.block-item.result c.in_ok-made.made c.loop-block-test.true
     c.block-item.is
     c.loop-block.invariant c.in_ok-made.ensures.ok)
 
@@ -75,7 +75,7 @@ contents-returns-in_err-made-clause-err t c =
     c.loop-block-test.true c.block-item.is
     (contents_gridded (Becomes c.args.breaking) (becomes_gridded c.args.breaking) c.args.breaking
     (take c.loop-block.block-index c.args.flow.now)
-    c.loop-block.blocks c.loop-block.invariant) c.in_err-made.ensures.err in
+    c.loop-block.blocks.items c.loop-block.invariant) c.in_err-made.ensures.err in
     search rules
 
 pub row_cells-bounds-places-len : goal.row_cells-bounds-places-len

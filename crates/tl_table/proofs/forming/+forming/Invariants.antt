@@ -6,7 +6,7 @@ use Rattle.tl_table.specs.Formed.{Becomes, BecomeContents, cells_of_group, Write
 use Rattle.tl_table.proofs.forming.+forming.Given as goal
 
 abbrev pub invariant-contents-loop-block : goal.invariant-contents-loop-block
-invariant-contents-loop-block l = BecomeContents (Becomes l.breaking) l.breaking (take l.block-index l.flow) l.blocks
+invariant-contents-loop-block l = BecomeContents (Becomes l.breaking) l.breaking (take l.block-index l.flow) l.blocks.items
 
 abbrev pub invariant-row_cells-loop-node : goal.invariant-row_cells-loop-node
 invariant-row_cells-loop-node l = Writes l.breaking (take l.node-index l.row) l.places l.fn.written.items l.written.items
