@@ -1,7 +1,7 @@
 //! Pieces of work in groups. The threads of one group run at once, and the next group begins after their
 //! join.
 
-ghost use Rattle.std.specs.Prelude.{◌≡◌, ℕ, ◌<◌, ◌≤◌, IfOk, Ok, length, map, slice_index, slice_index_or, vec_len};
+ghost use Rattle.std.specs.Prelude.{◌≡◌, ◌<◌, ◌≤◌, IfOk, Ok, length, map, slice_index, slice_index_or};
 ghost use Rattle.std.specs.List.{All, AllZip, range_with_len};
 ghost use Rattle.std.specs.List.Sorted.{IsNonDecreasingBy, IsPermutation};
 
@@ -23,7 +23,7 @@ pub fn places(alloc: Global, count: u32) -> Result<Vec<u32>, AllocError>
 
 /// How many groups there are, where there are enough pieces for so many. With more pieces a thread does
 /// several of them, one after the other, as a thread costs more than a small piece.
-const GROUPS: usize = 4;
+const GROUPS: usize = 2;
 
 /// How many pieces one thread does, so that there are [`GROUPS`] groups of `workers` threads.
 fn pieces_each(count: usize, workers: u32) -> usize

@@ -165,13 +165,13 @@ fn groups(
 
 #[test]
 fn a_group_begins_after_the_one_before_has_ended(rt: HostRuntime) -> Result<(), Fail> {
-    groups(&rt, rt.alloc(), 8, 2)
+    groups(&rt, rt.alloc(), 4, 2)
 }
 
 #[test]
 fn of_many_pieces_a_thread_does_several(rt: HostRuntime) -> Result<(), Fail> {
-    groups(&rt, rt.alloc(), 16, 4)?;
-    groups(&rt, rt.alloc(), 201, 52)
+    groups(&rt, rt.alloc(), 8, 4)?;
+    groups(&rt, rt.alloc(), 201, 102)
 }
 
 #[test]

@@ -27,11 +27,14 @@ returns g c =
     let enough : length c.args.places.now ≤ length runs.items * c.args.each =
     subst (λ n. length c.args.places.now ≤ n * c.args.each) (sym (sym runs.ok.0 ∙ c.in_ok-runs.ensures.len))
     (div_ceil_times (length c.args.places.now) c.args.each c.requires.each).0 in
-    subst (AllZip (λ place gave. (gave.place ≡ place) × g.F.Fn.post c.args.piece.now (get_or c.args.numbers.now place 0, tt) gave.one) c.args.places.now)
+    subst (AllZip (λ place gave. (gave.place ≡ place)
+    × g.F.Fn.post c.args.piece.now (get_or c.args.numbers.now place 0, tt) gave.one) c.args.places.now)
     (sym (c.loop-run.invariant.0 ∙ ap joined (sym all)))
-    (by_runs (λ place gave. (gave.place ≡ place) × g.F.Fn.post c.args.piece.now (get_or c.args.numbers.now place 0, tt) gave.one) c.args.each c.args.places.now runs.items enough
+    (by_runs (λ place gave. (gave.place ≡ place)
+    × g.F.Fn.post c.args.piece.now (get_or c.args.numbers.now place 0, tt) gave.one) c.args.each c.args.places.now runs.items enough
     (subst AllAreOk (sym all) c.loop-run.invariant.1)
     (λ n d within.
     let chunk = (c.in_ok-runs.ensures.each n d within).1 in
-    run_of (λ place gave. (gave.place ≡ place) × g.F.Fn.post c.args.piece.now (get_or c.args.numbers.now place 0, tt) gave.one) chunk.argument.now _ _ chunk.argument_is.value
+    run_of (λ place gave. (gave.place ≡ place)
+    × g.F.Fn.post c.args.piece.now (get_or c.args.numbers.now place 0, tt) gave.one) chunk.argument.now _ _ chunk.argument_is.value
     chunk.call))
