@@ -36,10 +36,10 @@ fn tree_of(alloc: Global, file: &str) -> Result<Option<TableNode>, AllocError>
 /// The table of a tree, or why it has none.
 fn table_or_text(
     alloc: Global,
-    node: &TableNode,
+    node: TableNode,
     breaking: Breaking,
 ) -> Result<Result<Table, String>, AllocError>
-    requires { IsSoundTree node.now }
+    requires { IsSoundTree node }
     ensures { IfOk result (λ found. IfOk found IsSound) }
 {
     match table(alloc, node, breaking) {
@@ -60,7 +60,7 @@ pub fn table_of(
     ensures { IfOk result (λ found. IfOk found IsSound) }
 {
     match tree_of(alloc, file)? {
-        Some(node) => table_or_text(alloc, &node, breaking),
+        Some(node) => table_or_text(alloc, node, breaking),
         None => {
             let text = String::from_str(alloc, "no tree")?;
             Ok(Err(text))

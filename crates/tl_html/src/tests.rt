@@ -100,7 +100,7 @@ fn table_of(alloc: Global, page: &str, breaking: Breaking) -> Result<Table, Fail
     }
     let list = tokens(alloc, bytes)?;
     let node = tree(alloc, list.as_slice())?;
-    Ok(tl_table::table(alloc, &node, breaking)?)
+    Ok(tl_table::table(alloc, node, breaking)?)
 }
 
 /// Whether two paragraphs have the same units and breaks.

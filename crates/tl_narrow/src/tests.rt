@@ -51,7 +51,7 @@ fn table_of(alloc: Global, file: &str) -> Result<Table, Fail>
     formed_has_few_cells();
     let list = tokens(alloc, bytes)?;
     let node = tree(alloc, list.as_slice())?;
-    Ok(table(alloc, &node, Breaking::Words)?)
+    Ok(table(alloc, node, Breaking::Words)?)
 }
 
 /// A certificate as text, as `at 9 lowest 3`, once it was judged to be valid at its own width.

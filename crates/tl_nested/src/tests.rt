@@ -82,7 +82,7 @@ fn table_of(alloc: Global, file: &str) -> Result<Table, Fail>
     }
     let list = tokens(alloc, bytes)?;
     let node = tree(alloc, list.as_slice())?;
-    Ok(table(alloc, &node, Breaking::Words)?)
+    Ok(table(alloc, node, Breaking::Words)?)
 }
 
 /// A section as text: its table, width, height and lower bound, and the widths of its columns, as
@@ -171,11 +171,13 @@ const FORKED: &str =
     "<table><tr><td><table><tr><td><table><tr><td>a</table></table><td><table><tr><td>b</table></table>";
 
 /// A table in a table, and so on, eight in all.
-const DEEPEST: &str =
-    "<table><tr><td><table><tr><td><table><tr><td><table><tr><td><table><tr><td><table><tr><td><table><tr><td><table><tr><td>a bb</table></table></table></table></table></table></table></table>";
+const DEEPEST: &str = "<table><tr><td><table><tr><td><table><tr><td><table><tr><td>\
+     <table><tr><td><table><tr><td><table><tr><td><table><tr><td>a bb\
+     </table></table></table></table></table></table></table></table>";
 
 const DEEPEST_SECTIONS: &str =
-    "7 5 1 1: 4;7 3 2 2: 2;6 5 1 1: 4;6 3 2 2: 2;5 5 1 1: 4;5 3 2 2: 2;4 5 1 1: 4;4 3 2 2: 2;3 5 1 1: 4;3 3 2 2: 2;2 5 1 1: 4;2 3 2 2: 2;1 5 1 1: 4;1 3 2 2: 2;0 5 1 1: 4;";
+    "7 5 1 1: 4;7 3 2 2: 2;6 5 1 1: 4;6 3 2 2: 2;5 5 1 1: 4;5 3 2 2: 2;4 5 1 1: 4;4 3 2 2: 2;\
+     3 5 1 1: 4;3 3 2 2: 2;2 5 1 1: 4;2 3 2 2: 2;1 5 1 1: 4;1 3 2 2: 2;0 5 1 1: 4;";
 
 #[test]
 fn a_table_alone_has_one_section(rt: HostRuntime) -> Result<(), Fail> {

@@ -45,7 +45,7 @@ pub fn drawn_cells(
         style.edge(),
         layout.heights.as_slice(),
     )?;
-    let mut cells = List::new(alloc);
+    let mut cells = Vec::with_capacity(alloc, table.cells.len())?;
     let mut next = 0;
     for cell in table.cells.as_slice() {
         let place = cell.place;
@@ -59,7 +59,7 @@ pub fn drawn_cells(
             lines: part.lines,
         })?;
     }
-    Ok(cells)
+    Ok(List::from_vec(cells))
 }
 
 /// The lines of a cell in a room of `width` columns. `next` is the number of the layout of its first
@@ -77,7 +77,8 @@ fn cell_part(
     requires fit { FitsCellRoom style width (out-TableCell cell.now) inner.now next }
     ensures { IfOk result (λ part. ShowsParts style width (out-TableCell cell.now) inner.now next part.next part.lines) }
 {
-    let mut lines = List::new(alloc);
+    // Most blocks are one line.
+    let mut lines = List::from_vec(Vec::with_capacity(alloc, cell.blocks.len())?);
     let mut next = next;
     for block in cell.blocks.as_slice() {
         next = put_block(alloc, &mut lines, block, style, width, inner, next)?;

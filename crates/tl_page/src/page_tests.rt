@@ -26,7 +26,7 @@ fn table_of(alloc: Global, file: &str, breaking: Breaking) -> Result<Option<Tabl
     let Ok(node) = tree(alloc, list.as_slice()) else {
         return Ok(None);
     };
-    match table(alloc, &node, breaking) {
+    match table(alloc, node, breaking) {
         Ok(formed) => Ok(Some(formed)),
         Err(_) => Ok(None),
     }

@@ -53,10 +53,10 @@ fn refused(refusal: Option<Refusal>) -> Result<Reading, AllocError>
 }
 
 /// The table that a tree becomes, or why it becomes none.
-fn read_tree(alloc: Global, node: &TableNode, breaking: Breaking) -> Result<Reading, AllocError>
-    requires { IsSoundTree node.now }
-    ensures is { IfOk result (ReadsTree breaking node.now) }
-    ensures each { (other : TableNode) (reading : Reading) → AreSame node.now other
+fn read_tree(alloc: Global, node: TableNode, breaking: Breaking) -> Result<Reading, AllocError>
+    requires { IsSoundTree node }
+    ensures is { IfOk result (ReadsTree breaking node) }
+    ensures each { (other : TableNode) (reading : Reading) → AreSame node other
         → ReadsTree breaking other reading → IfOk result (λ found. AreSameReadings found reading) }
     ensures sound { IfOk result IsSoundReading }
     ensures spellable { IfOk result (IsSpellableReading (Html breaking)) }
@@ -89,7 +89,7 @@ fn read_tokens(
     match tree(alloc, lent) {
         Ok(node) => {
             free(tokens);
-            read_tree(alloc, &node, breaking)
+            read_tree(alloc, node, breaking)
         }
         Err(error) => refused(tree_refusal(size, lent, error)),
     }

@@ -38,7 +38,7 @@ use Rattle.tl_table.specs.Refused.{tables_in_flow, tables_in_caption, tables_in_
 use Rattle.tl_table.proofs.TreeParts.{itself, tables_in_open, tables_in_block-out, part_of_cell-out, part_of_group-out}
 use Rattle.tl_table.proofs.TreeParts.{tables_of-out}
 
-abbrev Gridded : List NumberedShape → Type 0
+abbrev pub Gridded : List NumberedShape → Type 0
 Gridded tables = AllByRecursion HasSomeGrid tables
 
 -- the tables in the groups of a table are those in its cells

@@ -122,11 +122,12 @@ table_rest : (node : TableNode) → AreSound (outline node) → AreSound (captio
     × AreSound (columns (out-TableNode node).columns ∷ (groups_outline (out-TableNode node).groups ++ table_end ∷ []))
 table_rest node sound = sound_split _ _ (sound_tail _ _ (subst AreSound (outline-out node) sound))
 
+pub sound_groups : (node : TableNode) → AreSound (outline node) → AreSound (groups_outline (out-TableNode node).groups)
+sound_groups node sound = (sound_split _ (table_end ∷ []) (sound_tail _ _ (table_rest node sound).1)).0
+
 pub table_groups : (node : TableNode) → AreSound (outline node) →
     AllByRecursion (λ g. AreSound (group_outline g)) (out-TableNode node).groups
-table_groups node sound =
-    sound_each group_outline (out-TableNode node).groups (sound_split _ (table_end ∷ [])
-    (sound_tail _ _ (table_rest node sound).1)).0
+table_groups node sound = sound_each group_outline (out-TableNode node).groups (sound_groups node sound)
 
 pub table_caption : (node : TableNode) (flow : List Block) → (out-TableNode node).caption ≡ Some flow → AreSound (outline node) →
     AreSound (blocks_outline flow)

@@ -1,10 +1,16 @@
 -- Cells that are written one after another, each at the place of its number.
 use Rattle.std.proofs.Common.{◌≡◌, ◌∙◌, ℕ, ◌+◌, ◌<◌, ◌≤◌, List, [], ◌∷◌, ◌++◌, length, map, get_or, take, drop, sym, ap, subst}
-use Rattle.std.proofs.Common.{append_assoc}
+use Rattle.std.proofs.Common.{Option, Some, None, Vec, append_assoc}
 use Rattle.std.proofs.Common.{length-append, arith}
+use Rattle.std.specs.Iterator.{Yields}
 use Rattle.std.specs.List.{AllZip, flat_map}
+use Rattle.std.specs.Vec.{vec_len}
+use Rattle.std.specs.Vec.Iter.{into_iter_items, into_iter_len, into_iter_steps}
+use Rattle.std.specs.declared.vec.IntoIter.{IntoIter}
 use Rattle.std.proofs.lemmas.Grind.{flat_map-append}
-use Rattle.std.proofs.lemmas.List.{append-nil, map-append, take_more, take-append-drop}
+use Rattle.std.proofs.lemmas.Iterator.Adapters.{YieldsList-from_vec}
+use Rattle.std.proofs.lemmas.Iterator.Consumers.{YieldsList-end, YieldsList-so_far, YieldsList-turn}
+use Rattle.std.proofs.lemmas.List.{append-nil, map-append, map-id, take_more, take-append-drop}
 use Rattle.tl_base.specs.declared.breaking.Breaking.{Breaking}
 use Rattle.tl_base.proofs.Zips.{AllZip-push, AllZip-append, AllZip-length}
 use Rattle.tl_grid.specs.declared.shape.Place.{Place}
@@ -62,14 +68,32 @@ Writes-more breaking nodes others places before mid after first second = record 
 
 -- ---- items that a loop has come to
 
--- one more pair, where the second list goes on
-pub zip_more : {A B : Type 0} (R : A → B → Type 0) (xs : List A) (ys : List B) (i : ℕ) (x : A) (y : B) → i < length xs →
-    x ≡ get_or xs i x →
-    AllZip R (take i xs) ys → R x y → AllZip R (take (i + 1) xs) (ys ++ y ∷ [])
-zip_more {A = A} R xs ys i x y within is all last =
-    subst (λ (items : List A). AllZip R items (ys ++ y ∷ []))
-    (sym (take_more xs i x within ∙ ap (λ (z : A). take i xs ++ z ∷ []) (sym is)))
-    (AllZip-push R (take i xs) ys x y all last)
+-- a loop over items has come to this one, after those that it yielded
+pub record ComesTo {X : Type 0} (items yielded : List X) (x : X) : Type 0 where
+  pub so_far : yielded ≡ take (length yielded) items
+  pub within : length yielded < length items
+  pub is : x ≡ get_or items (length yielded) x
+
+pub comes_to : {X Z : Type 0} (from now next : IntoIter X Z) (vector : Vec X Z) {found : Option X} (items yielded : List X)
+    (x : X) → vector.items ≡ items → into_iter_items from ≡ vector.items → into_iter_len from ≡ vec_len vector →
+    Yields (into_iter_steps {X = X} {Z = Z}) from yielded now → found ≡ Some x → into_iter_steps now found next →
+    ComesTo items yielded x
+comes_to from now next vector {found = found} items yielded x all given long ran is step =
+    let road = YieldsList-from_vec {s = from} items (given ∙ all) (long ∙ vector.ok.0 ∙ ap length all) in
+    let turn = YieldsList-turn road yielded now ran found next x is step in record {
+      so_far = sym (map-id yielded) ∙ YieldsList-so_far road yielded now ran;
+      within = turn.0;
+      is = turn.1;
+    }
+
+-- at its end it has yielded all
+pub yielded_all : {X Z : Type 0} (from now next : IntoIter X Z) (vector : Vec X Z) {found : Option X} (items yielded : List X) →
+    vector.items ≡ items → into_iter_items from ≡ vector.items → into_iter_len from ≡ vec_len vector →
+    Yields (into_iter_steps {X = X} {Z = Z}) from yielded now → found ≡ None → into_iter_steps now found next →
+    yielded ≡ items
+yielded_all from now next vector {found = found} items yielded all given long ran is step =
+    let road = YieldsList-from_vec {s = from} items (given ∙ all) (long ∙ vector.ok.0 ∙ ap length all) in
+    sym (map-id yielded) ∙ (YieldsList-end road yielded now ran found next is step).0
 
 -- the lists of the items so far, joined, and that of the next one
 pub joined_more : {X Y : Type 0} (f : X → List Y) (xs : List X) (i : ℕ) (x : X) → i < length xs → x ≡ get_or xs i x →
@@ -91,25 +115,13 @@ joined_room {X = X} f xs i x within is =
     omega arith
 
 -- the cells of one more item
-pub Writes-item : {X : Type 0} (breaking : Breaking) (f : X → List CellNode) (xs : List X) (i : ℕ) (x : X) (places : List Place)
-    (before mid after : List TableCell) → i < length xs → x ≡ get_or xs i x →
-    Writes breaking (flat_map f (take i xs)) places before mid →
-    Writes breaking (f x) places mid after → Writes breaking (flat_map f (take (i + 1) xs)) places before after
-Writes-item breaking f xs i x places before mid after within is first second =
-    subst (λ (nodes : List CellNode). Writes breaking nodes places before after) (sym (joined_more f xs i x within is))
-    (Writes-more breaking (flat_map f (take i xs)) (f x) places before mid after first second)
-
-pub Writes-next : (breaking : Breaking) (nodes : List CellNode) (i : ℕ) (node : CellNode) (places : List Place)
-    (before mid after : List TableCell)
-    (cell : TableCell) (n : ℕ) (d : Place) → i < length nodes → node ≡ get_or nodes i node →
-    Writes breaking (take i nodes) places before mid →
-    BecomesCell (Becomes breaking) breaking (out-CellNode node) (out-TableCell cell) → n ≡ length mid →
-    place_of cell ≡ get_or places n d →
-    n < length places → after ≡ mid ++ cell ∷ [] → Writes breaking (take (i + 1) nodes) places before after
-Writes-next breaking nodes i node places before mid after cell n d within is writes becomes long at below pushed =
-    subst (λ (some : List CellNode). Writes breaking some places before after)
-    (sym (take_more nodes i node within ∙ ap (λ (z : CellNode). take i nodes ++ z ∷ []) (sym is)))
-    (Writes-cell breaking (take i nodes) node places before mid after cell n d writes becomes long at below pushed)
+pub Writes-last : {X : Type 0} (breaking : Breaking) (f : X → List CellNode) (xs : List X) (x : X) (places : List Place)
+    (before mid after : List TableCell) → Writes breaking (flat_map f xs) places before mid → Writes breaking (f x) places mid after →
+    Writes breaking (flat_map f (xs ++ x ∷ [])) places before after
+Writes-last breaking f xs x places before mid after first second =
+    subst (λ (nodes : List CellNode). Writes breaking nodes places before after)
+    (sym (flat_map-append f xs (x ∷ []) ∙ ap (λ (rest : List CellNode). flat_map f xs ++ rest) (append-nil (f x))))
+    (Writes-more breaking (flat_map f xs) (f x) places before mid after first second)
 
 -- cells so far leave room for those of one more item
 pub Writes-room : {X : Type 0} (breaking : Breaking) (f : X → List CellNode) (xs : List X) (i : ℕ) (x : X) (places : List Place)

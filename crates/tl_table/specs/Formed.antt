@@ -72,9 +72,13 @@ shape_of node = record { columns = node.columns; groups = map group_shape node.g
 abbrev pub cells_of_group : OpenGroup → List CellNode
 cells_of_group group = flat_map (λ row. row) group.rows
 
--- the cells of a table as they are written, group by group
+-- the cells of groups as they are written, one group after another
+abbrev pub cells_of_groups : List GroupNode → List CellNode
+cells_of_groups groups = flat_map (λ group. cells_of_group (out-GroupNode group)) groups
+
+-- the cells of a table as they are written
 abbrev pub cells_written : OpenNode → List CellNode
-cells_written node = flat_map (λ group. cells_of_group (out-GroupNode group)) node.groups
+cells_written node = cells_of_groups node.groups
 
 -- ---- the blocks of a cell
 

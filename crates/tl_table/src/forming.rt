@@ -1,7 +1,7 @@
 //! Forms the table of a tree: its grid, its caption's row and its cells by top, then left.
 
-ghost use Rattle.std.specs.Prelude.{◌≡◌, ◌+◌, ◌<◌, ◌≤◌, ◌++◌, [], length, map, take, IfOk, IfErr, alloc_error};
-ghost use Rattle.std.specs.List.{All};
+ghost use Rattle.std.specs.Prelude.{◌≡◌, ◌+◌, ◌<◌, ◌≤◌, ◌++◌, [], length, map, take, IfOk, IfErr, Some, alloc_error};
+ghost use Rattle.std.specs.List.{All, flat_map};
 ghost use Rattle.std.specs.List.Sorted.{IsPermutation, IsNonDecreasingBy};
 ghost use Rattle.tl_base.specs.Returned.{ReturnsError, IsMemoryOr};
 ghost use Rattle.tl_base.specs.declared.limits.TheConstants.{MAX_ROWS};
@@ -19,13 +19,13 @@ ghost use Rattle.tl_table.specs.declared.cell.TableCell.{out-TableCell};
 ghost use Rattle.tl_table.specs.declared.error.FormError.{FormError};
 ghost use Rattle.tl_table.specs.declared.error.FormError.TheVariants.{Memory};
 ghost use Rattle.tl_table.specs.Formed.{Becomes, BecomesContent, BecomeContents, BecomesCell, BecomeCaption, Writes, slot_number};
-ghost use Rattle.tl_table.specs.Formed.{caption_rows, cells_of_group, cells_written, header_kind, lowered, shape_of};
+ghost use Rattle.tl_table.specs.Formed.{caption_rows, cells_of_group, cells_of_groups, header_kind, lowered, shape_of};
 ghost use Rattle.tl_table.specs.Refused.{AreRefused, HasNoGrid, tables_in_block, part_of_cell, part_of_group};
 ghost use Rattle.tl_table.specs.Same.{ReturnsTable};
 ghost use Rattle.tl_table.specs.Sound.{IsSound as IsSoundTable, place_of};
 ghost use Rattle.tl_table.specs.Spellable.{IsSpellable};
 ghost use Rattle.tl_table.specs.inner.Forming.{IsOwnError, refusal};
-ghost use Rattle.tl_table.specs.Refused.{tables_in_caption, tables_in_cells, tables_in_flow, tables_in_groups};
+ghost use Rattle.tl_table.specs.Refused.{tables_in_cells, tables_in_flow, tables_in_groups};
 
 use crate::cell::{Content, Kind, Table, TableCell};
 use crate::error::FormError;
@@ -117,11 +117,11 @@ fn kind_of(head: bool) -> Kind
 
 /// The block of a tree as a block of a table.
 #[cycle(forming)]
-fn content(alloc: Global, block: &Block, breaking: Breaking) -> Result<Content, FormError>
-    requires { AreSound (block_outline block.now) }
+fn content(alloc: Global, block: Block, breaking: Breaking) -> Result<Content, FormError>
+    requires { AreSound (block_outline block) }
     ensures ok { IfOk result (λ content.
-        BecomesContent (Becomes breaking) breaking (out-Block block.now) (out-Content content)) }
-    ensures err { IfErr result (IsMemoryOr (Memory alloc_error) (AreRefused (tables_in_block block.now))) }
+        BecomesContent (Becomes breaking) breaking (out-Block block) (out-Content content)) }
+    ensures err { IfErr result (IsMemoryOr (Memory alloc_error) (AreRefused (tables_in_block block))) }
 {
     match block {
         Block::Para(paragraph) => {
@@ -129,7 +129,7 @@ fn content(alloc: Global, block: &Block, breaking: Breaking) -> Result<Content, 
             Ok(Content::Para(units))
         }
         Block::Table(node) => {
-            let table = formed(alloc, node, breaking)?;
+            let table = formed(alloc, Box::into_inner(node), breaking)?;
             let inner = Box::new(alloc, table)?;
             Ok(Content::Table(inner))
         }
@@ -138,13 +138,17 @@ fn content(alloc: Global, block: &Block, breaking: Breaking) -> Result<Content, 
 
 /// The blocks of a flow.
 #[cycle(forming)]
-fn contents(alloc: Global, flow: &[Block], breaking: Breaking) -> Result<List<Content>, FormError>
-    requires { AreSound (blocks_outline flow.now) }
-    ensures ok { IfOk result (BecomeContents (Becomes breaking) breaking flow.now) }
-    ensures err { IfErr result (IsMemoryOr (Memory alloc_error) (AreRefused (tables_in_flow flow.now))) }
+fn contents(
+    alloc: Global,
+    flow: List<Block>,
+    breaking: Breaking,
+) -> Result<List<Content>, FormError>
+    requires { AreSound (blocks_outline flow) }
+    ensures ok { IfOk result (BecomeContents (Becomes breaking) breaking flow) }
+    ensures err { IfErr result (IsMemoryOr (Memory alloc_error) (AreRefused (tables_in_flow flow))) }
 {
     let mut blocks = Vec::with_capacity(alloc, flow.len())?;
-    for block in flow {
+    for block in flow.into_vec() {
         let made = content(alloc, block, breaking)?;
         blocks.push(made)?;
     }
@@ -155,77 +159,77 @@ fn contents(alloc: Global, flow: &[Block], breaking: Breaking) -> Result<List<Co
 #[cycle(forming)]
 fn cell(
     alloc: Global,
-    node: &CellNode,
+    node: CellNode,
     place: Place,
     breaking: Breaking,
 ) -> Result<TableCell, FormError>
-    requires { AreSound (cell_outline node.now) }
+    requires { AreSound (cell_outline node) }
     ensures ok { IfOk result (λ cell.
-        BecomesCell (Becomes breaking) breaking (out-CellNode node.now) (out-TableCell cell)) }
+        BecomesCell (Becomes breaking) breaking (out-CellNode node) (out-TableCell cell)) }
     ensures place { IfOk result (λ cell. place_of cell ≡ place) }
-    ensures err { IfErr result (IsMemoryOr (Memory alloc_error) (AreRefused (part_of_cell node.now).inner)) }
+    ensures err { IfErr result (IsMemoryOr (Memory alloc_error) (AreRefused (part_of_cell node).inner)) }
 {
-    let blocks = contents(alloc, node.flow.as_slice(), breaking)?;
+    let CellNode {
+        head,
+        colspan: _,
+        rowspan: _,
+        least,
+        flow,
+    } = node;
+    let blocks = contents(alloc, flow, breaking)?;
     Ok(TableCell {
-        kind: kind_of(node.head),
+        kind: kind_of(head),
         place,
-        least: node.least,
+        least,
         blocks,
     })
 }
 
-/// The caption's cell, over all columns of the first row, if there is a caption.
+/// The cell of a caption of this flow, over all columns of the first row.
 #[cycle(forming)]
 fn caption_cells(
     alloc: Global,
-    node: &TableNode,
+    flow: List<Block>,
     cols: u32,
     breaking: Breaking,
 ) -> Result<Vec<TableCell>, FormError>
-    requires { AreSound (outline node.now) }
-    ensures ok { IfOk result (λ cells.
-        BecomeCaption (Becomes breaking) breaking cols (out-TableNode node.now).caption cells.items) }
-    ensures err { IfErr result (IsMemoryOr (Memory alloc_error)
-        (AreRefused (tables_in_caption (out-TableNode node.now).caption))) }
+    requires { AreSound (blocks_outline flow) }
+    ensures ok { IfOk result (λ cells. BecomeCaption (Becomes breaking) breaking cols (Some flow) cells.items) }
+    ensures err { IfErr result (IsMemoryOr (Memory alloc_error) (AreRefused (tables_in_flow flow))) }
 {
     let mut cells = Vec::new(alloc);
-    match &node.caption {
-        None => Ok(cells),
-        Some(flow) => {
-            let blocks = contents(alloc, flow.as_slice(), breaking)?;
-            let place = Place {
-                left: 0,
-                right: cols,
-                top: 0,
-                bottom: 1,
-            };
-            cells.push(TableCell {
-                kind: Kind::Caption,
-                place,
-                least: 0,
-                blocks,
-            })?;
-            Ok(cells)
-        }
-    }
+    let blocks = contents(alloc, flow, breaking)?;
+    let place = Place {
+        left: 0,
+        right: cols,
+        top: 0,
+        bottom: 1,
+    };
+    cells.push(TableCell {
+        kind: Kind::Caption,
+        place,
+        least: 0,
+        blocks,
+    })?;
+    Ok(cells)
 }
 
 /// The cells of a row, after those written before it, each at the place of its number.
 #[cycle(forming)]
 fn row_cells(
     alloc: Global,
-    row: &[CellNode],
+    row: List<CellNode>,
     places: &[Place],
     breaking: Breaking,
     mut written: Vec<TableCell>,
 ) -> Result<Vec<TableCell>, FormError>
-    requires sound { AreSound (cells_outline row.now) }
+    requires sound { AreSound (cells_outline row) }
     requires placed { map place_of written.items ≡ take (length written.items) places.now }
-    requires room { length written.items + length row.now ≤ length places.now }
-    ensures ok { IfOk result (λ after. Writes breaking row.now places.now written.items after.items) }
-    ensures err { IfErr result (IsMemoryOr (Memory alloc_error) (AreRefused (tables_in_cells row.now))) }
+    requires room { length written.items + length row ≤ length places.now }
+    ensures ok { IfOk result (λ after. Writes breaking row places.now written.items after.items) }
+    ensures err { IfErr result (IsMemoryOr (Memory alloc_error) (AreRefused (tables_in_cells row))) }
 {
-    for node in row {
+    for node in row.into_vec() {
         let made = cell(alloc, node, places[written.len()], breaking)?;
         written.push(made)?;
     }
@@ -236,21 +240,21 @@ fn row_cells(
 #[cycle(forming)]
 fn group_cells(
     alloc: Global,
-    group: &GroupNode,
+    group: GroupNode,
     places: &[Place],
     breaking: Breaking,
     mut written: Vec<TableCell>,
 ) -> Result<Vec<TableCell>, FormError>
-    requires sound { AreSound (group_outline group.now) }
+    requires sound { AreSound (group_outline group) }
     requires placed { map place_of written.items ≡ take (length written.items) places.now }
-    requires room { length written.items + length (cells_of_group (out-GroupNode group.now))
-        ≤ length places.now }
+    requires room { length written.items + length (cells_of_group (out-GroupNode group)) ≤ length places.now }
     ensures ok { IfOk result (λ after.
-        Writes breaking (cells_of_group (out-GroupNode group.now)) places.now written.items after.items) }
-    ensures err { IfErr result (IsMemoryOr (Memory alloc_error) (AreRefused (part_of_group group.now).inner)) }
+        Writes breaking (cells_of_group (out-GroupNode group)) places.now written.items after.items) }
+    ensures err { IfErr result (IsMemoryOr (Memory alloc_error) (AreRefused (part_of_group group).inner)) }
 {
-    for row in group.rows.as_slice() {
-        written = row_cells(alloc, row.as_slice(), places, breaking, written)?;
+    let GroupNode { part: _, rows } = group;
+    for row in rows.into_vec() {
+        written = row_cells(alloc, row, places, breaking, written)?;
     }
     Ok(written)
 }
@@ -259,31 +263,30 @@ fn group_cells(
 #[cycle(forming)]
 fn written_cells(
     alloc: Global,
-    node: &TableNode,
+    groups: List<GroupNode>,
     places: &[Place],
     breaking: Breaking,
 ) -> Result<Vec<TableCell>, FormError>
-    requires sound { AreSound (outline node.now) }
-    requires room { length (cells_written (out-TableNode node.now)) ≡ length places.now }
-    ensures ok { IfOk result (λ cells.
-        Writes breaking (cells_written (out-TableNode node.now)) places.now [] cells.items) }
-    ensures err { IfErr result (IsMemoryOr (Memory alloc_error)
-        (AreRefused (tables_in_groups (out-TableNode node.now).groups))) }
+    requires sound { AreSound (flat_map group_outline groups) }
+    requires room { length (cells_of_groups groups) ≡ length places.now }
+    ensures ok { IfOk result (λ cells. Writes breaking (cells_of_groups groups) places.now [] cells.items) }
+    ensures err { IfErr result (IsMemoryOr (Memory alloc_error) (AreRefused (tables_in_groups groups))) }
 {
-    let mut written = Vec::new(alloc);
-    for group in node.groups.as_slice() {
+    let mut written = Vec::with_capacity(alloc, places.len())?;
+    for group in groups.into_vec() {
         written = group_cells(alloc, group, places, breaking, written)?;
     }
     Ok(written)
 }
 
 /// The cells of `first`, and after them those of `second`.
-fn joined(mut first: Vec<TableCell>, second: Vec<TableCell>) -> Result<Vec<TableCell>, AllocError>
+fn joined(
+    mut first: Vec<TableCell>,
+    mut second: Vec<TableCell>,
+) -> Result<Vec<TableCell>, AllocError>
     ensures { IfOk result (λ cells. cells.items ≡ first.items ++ second.items) }
 {
-    for cell in second {
-        first.push(cell)?;
-    }
+    first.append(&mut second)?;
     Ok(first)
 }
 
@@ -299,21 +302,30 @@ fn arranged(first: Vec<TableCell>, second: Vec<TableCell>) -> Result<Vec<TableCe
 
 /// The table of a part of a tree.
 #[cycle(forming)]
-fn formed(alloc: Global, node: &TableNode, breaking: Breaking) -> Result<Table, FormError>
-    requires { AreSound (outline node.now) }
-    ensures ok { IfOk result (Becomes breaking node.now) }
-    ensures err { IfErr result (IsMemoryOr (Memory alloc_error) (HasNoGrid node.now)) }
+fn formed(alloc: Global, node: TableNode, breaking: Breaking) -> Result<Table, FormError>
+    requires { AreSound (outline node) }
+    ensures ok { IfOk result (Becomes breaking node) }
+    ensures err { IfErr result (IsMemoryOr (Memory alloc_error) (HasNoGrid node)) }
 {
-    let grid = grid_of(alloc, node)?;
-    let down = caption_rows(node);
+    let grid = grid_of(alloc, &node)?;
+    let down = caption_rows(&node);
     let cols = grid.cols.max(down);
     let rows = grid.rows + down;
-    let caption = caption_cells(alloc, node, cols, breaking)?;
+    let TableNode {
+        number,
+        caption,
+        columns: _,
+        groups,
+    } = node;
+    let caption = match caption {
+        None => Vec::new(alloc),
+        Some(flow) => caption_cells(alloc, flow, cols, breaking)?,
+    };
     let places = lowered(alloc, grid.places, down)?;
-    let written = written_cells(alloc, node, places.as_slice(), breaking)?;
+    let written = written_cells(alloc, groups, places.as_slice(), breaking)?;
     let cells = arranged(caption, written)?;
     Ok(Table {
-        number: node.number,
+        number,
         cols,
         rows,
         cells: List::from_vec(cells),
@@ -323,19 +335,20 @@ fn formed(alloc: Global, node: &TableNode, breaking: Breaking) -> Result<Table, 
 /// The table that a tree becomes: its grid by the HTML Standard's "Forming a table" (section 4.9.12.1)
 /// without the columns and rows in which no cell begins, its caption in a row of its own on top, its
 /// cells by top, then left, and their paragraphs with words as they are or separated into units. The
-/// first of its tables that has no grid is named, with the cause. The time and the memory grow with
-/// the number of cells, words and tables.
-pub fn table(alloc: Global, node: &TableNode, breaking: Breaking) -> Result<Table, FormError>
-    requires { IsSound node.now }
+/// first of its tables that has no grid is named, with the cause. The table takes its text from the
+/// tree, which is given up for it. The time and the memory grow with the number of cells, words and
+/// tables.
+pub fn table(alloc: Global, node: TableNode, breaking: Breaking) -> Result<Table, FormError>
+    requires { IsSound node }
     // The table is what the tree becomes, and whatever table it becomes is returned.
-    ensures ok { IfOk result (Becomes breaking node.now) }
-    ensures each_ok { (table : Table) → Becomes breaking node.now table → ReturnsTable table result }
+    ensures ok { IfOk result (Becomes breaking node) }
+    ensures each_ok { (table : Table) → Becomes breaking node table → ReturnsTable table result }
     // What every call that takes a table may count on; a file can spell it by the same breaking.
     ensures sound { IfOk result IsSoundTable }
     ensures spellable { IfOk result (IsSpellable breaking) }
     // Each error comes exactly where its cause is so.
-    ensures err { IfErr result (IsMemoryOr (Memory alloc_error) (HasNoGrid node.now)) }
-    ensures each_err { (error : FormError) → HasNoGrid node.now error
+    ensures err { IfErr result (IsMemoryOr (Memory alloc_error) (HasNoGrid node)) }
+    ensures each_err { (error : FormError) → HasNoGrid node error
         → ReturnsError (Memory alloc_error) error result }
 {
     formed(alloc, node, breaking)

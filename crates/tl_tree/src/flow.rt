@@ -1,6 +1,6 @@
 //! A flow as it is read: the words and breaks of the paragraph that is open, and the blocks before it.
 
-ghost use Rattle.std.specs.Prelude.{◌≡◌, ◌+◌, ◌<◌, ◌≤◌, ◌++◌, ◌∷◌, [], false, true, IfOk, OnOk, map, chars, string_bytes, MatchOption};
+ghost use Rattle.std.specs.Prelude.{◌≡◌, ◌+◌, ◌<◌, ◌≤◌, ◌++◌, ◌∷◌, [], false, true, IfOk, OnErr, OnOk, map, chars, string_bytes, MatchOption};
 ghost use Rattle.std.specs.List.{list_all, list_any};
 ghost use Rattle.std.specs.Char.{is_ascii_whitespace};
 ghost use Rattle.tl_text.proofs.WordLemmas.{words_from};
@@ -12,6 +12,19 @@ use std::alloc::{AllocError, Global};
 use std::mem::replace;
 use tl_base::{List, MAX_FILE_BYTES, Text};
 use tl_text::{Atom, Para};
+
+/// Puts the item at the end of the list, which begins with room for so many: most paragraphs are one word or
+/// two, and most flows one block.
+fn put<T: Drop>(alloc: Global, list: &mut List<T>, room: usize, item: T) -> Result<(), AllocError>
+    ensures ok { OnOk result (list.new ≡ list.old ++ item ∷ []) }
+    ensures err { OnErr result (list.new ≡ list.old) }
+{
+    if list.is_empty() {
+        *list = List::from_vec(Vec::with_capacity(alloc, room)?);
+    }
+    list.push(item)?;
+    Ok(())
+}
 
 /// The paragraph that is open: its atoms so far, and the word that is not ended.
 #[derive(Drop)]
@@ -43,7 +56,12 @@ impl Line {
     {
         if !self.word.is_empty() {
             let word = replace(&mut self.word, String::new(alloc));
-            self.atoms.push(Atom::Word(Text::from_string(word)))?;
+            put(
+                alloc,
+                &mut self.atoms,
+                2,
+                Atom::Word(Text::from_string(word)),
+            )?;
         }
         Ok(())
     }
@@ -140,7 +158,7 @@ impl Flow {
     {
         let Flow { mut blocks, line } = self;
         if let Some(para) = line.end(alloc)? {
-            blocks.push(Block::Para(para))?;
+            put(alloc, &mut blocks, 1, Block::Para(para))?;
         }
         Ok(blocks)
     }

@@ -87,7 +87,7 @@ fn table_of(alloc: Global, file: &str) -> Result<Table, Fail>
     let Ok(node) = tree(alloc, list.as_slice()) else {
         return Err("no tree".into());
     };
-    let Ok(table) = table(alloc, &node, Breaking::Words) else {
+    let Ok(table) = table(alloc, node, Breaking::Words) else {
         return Err("no table".into());
     };
     Ok(table)
@@ -223,7 +223,8 @@ const BESIDE: &str =
     "<table><tr><td><table><tr><td>aa bb</table><td><table><tr><td>cc dd</table></table>";
 
 const BESIDE_SHOWN: &str =
-    "tablelayout 1 12 plain 5000;lowest 1;section 2 12 1 1 0 1;widths 5;z0 chain;section 2 4 2 2 0 1;widths 2;z0 chain;section 1 12 1 1 0 1;widths 5;z0 chain;section 1 4 2 2 0 1;widths 2;z0 chain;section 0 12 1 1 0 1;widths 5 5;z0 chain;end;";
+    "tablelayout 1 12 plain 5000;lowest 1;section 2 12 1 1 0 1;widths 5;z0 chain;section 2 4 2 2 0 1;widths 2;z0 chain;\
+     section 1 12 1 1 0 1;widths 5;z0 chain;section 1 4 2 2 0 1;widths 2;z0 chain;section 0 12 1 1 0 1;widths 5 5;z0 chain;end;";
 
 /// Certificates of the four columns at 25 columns with a budget of 3.
 const FOUR_COLUMNS_JUDGED: &str = "

@@ -45,7 +45,8 @@ loop-sections-smaller g c =
     left_after given subject
     c.requires.subject
     c.requires.wide
-    c.args.budget c.loop-sections.sections (due_of c.loop-sections.due) c.loop-sections.invariant found.section found.placed.width one c.in_ok-section.ensures.width
+    c.args.budget c.loop-sections.sections (due_of c.loop-sections.due) c.loop-sections.invariant
+    found.section found.placed.width one c.in_ok-section.ensures.width
     (Some (due_of c.in-Some.next)) next_is
 
 pub loop-sections-preserved : goal.loop-sections-preserved
@@ -60,7 +61,8 @@ loop-sections-preserved g c =
     so_far_after given subject
     c.requires.subject
     c.requires.wide
-    c.args.budget c.loop-sections.sections (due_of c.loop-sections.due) c.loop-sections.invariant found.section found.placed.width one c.in_ok-section.ensures.width
+    c.args.budget c.loop-sections.sections (due_of c.loop-sections.due) c.loop-sections.invariant
+    found.section found.placed.width one c.in_ok-section.ensures.width
     c.push.new.self (Some (due_of c.in-Some.next)) c.in_ok-section.ensures.writable c.in_ok-push.ensures.ok next_is
 
 pub returns-in-None-clause-expected : goal.returns-in-None-clause-expected
@@ -75,7 +77,8 @@ returns-in-None-clause-expected g c =
     let all = so_far_after given subject
     c.requires.subject
     c.requires.wide
-    c.args.budget c.loop-sections.sections (due_of c.loop-sections.due) c.loop-sections.invariant found.section found.placed.width one c.in_ok-section.ensures.width
+    c.args.budget c.loop-sections.sections (due_of c.loop-sections.due) c.loop-sections.invariant
+    found.section found.placed.width one c.in_ok-section.ensures.width
     c.push.new.self None c.in_ok-section.ensures.writable c.in_ok-push.ensures.ok next_is in
     record { document = meant subject; of = c.requires.subject.document; each = all.each; none = all.due }
 
@@ -94,7 +97,8 @@ returns-in-None-clause-writable g c =
     (so_far_after given subject
     c.requires.subject
     c.requires.wide
-    c.args.budget c.loop-sections.sections (due_of c.loop-sections.due) c.loop-sections.invariant found.section found.placed.width one c.in_ok-section.ensures.width
+    c.args.budget c.loop-sections.sections (due_of c.loop-sections.due) c.loop-sections.invariant
+    found.section found.placed.width one c.in_ok-section.ensures.width
     c.push.new.self None c.in_ok-section.ensures.writable c.in_ok-push.ensures.ok next_is)
 
 pub returns-in-None-clause-placed : goal.returns-in-None-clause-placed

@@ -27,7 +27,7 @@ use Rattle.tl_page.proofs.cells.+cells.Goals as goal
 pub cell_part-loop-block-init : goal.cell_part-loop-block-init
 cell_part-loop-block-init t c =
     subst (BlocksSoFar c.args.style c.args.width (out-TableCell c.args.cell.now).blocks c.args.inner.now c.args.next 0
-    c.args.next) (sym c.new-lines.ensures)
+    c.args.next) (sym (c.from_vec-lines.ensures ∙ c.in_ok-with_capacity.ensures.items))
     (blocks-none c.args.style c.args.width (out-TableCell c.args.cell.now) c.args.inner.now c.args.next c.requires.fit)
 
 pub cell_part-put_block-requires : goal.cell_part-put_block-requires
@@ -142,7 +142,8 @@ drawn_cells-strips-requires-2-clause-room t c =
 
 pub drawn_cells-loop-cell-init : goal.drawn_cells-loop-cell-init
 drawn_cells-loop-cell-init t c =
-    subst (CellsSoFar c.args.style (out-Table c.args.table.now) (out-Layout c.args.layout.now) 0 0) (sym c.new-cells.ensures)
+    subst (CellsSoFar c.args.style (out-Table c.args.table.now) (out-Layout c.args.layout.now) 0 0)
+    (sym c.in_ok-cells.ensures.items)
     (cells-none c.args.style (out-Table c.args.table.now) (out-Layout c.args.layout.now)
     (fitting c.args.style c.args.table.now c.args.layout.now c.requires.fit))
 
@@ -174,7 +175,7 @@ drawn_cells-cell_part-requires t c =
             (subst (λ inner. FitsCellRoom c.args.style (width_for c.args.style layout place) (out-TableCell cell)
             inner c.loop-cell.next)
             (sym c.as_slice-in-loop-cell-2.ensures)
-            (cell-next c.args.style table layout c.loop-cell.cell-index c.loop-cell.next c.loop-cell.cells cell fit placed
+            (cell-next c.args.style table layout c.loop-cell.cell-index c.loop-cell.next c.loop-cell.cells.items cell fit placed
             within is c.loop-cell.invariant)),
       ),
     )
@@ -216,13 +217,14 @@ drawn_cells-loop-cell-preserved t c =
     part.lines) columns
     c.in_ok-part.ensures) in
     subst (CellsSoFar style table layout (c.loop-cell.cell-index + 1) part.next)
-    (sym (c.in_ok-push.ensures.ok ∙ ap (λ one. c.loop-cell.cells ++ one ∷ [])
+    (sym (c.in_ok-push.ensures.items ∙ ap (λ one. c.loop-cell.cells.items ++ one ∷ [])
     (same_drawn style layout.widths layout.heights place c.room_in-columns.result c.begin_of.result part.lines columns first)))
-    (cells-more style table layout c.loop-cell.cell-index c.loop-cell.next part.next c.loop-cell.cells part.lines cell within is
+    (cells-more style table layout c.loop-cell.cell-index c.loop-cell.next part.next c.loop-cell.cells.items part.lines cell within is
     c.loop-cell.invariant shown)
 
 pub drawn_cells-returns : goal.drawn_cells-returns
 drawn_cells-returns t c =
-    cells-all c.args.style c.args.table.now c.args.layout.now c.loop-cell.cell-index c.loop-cell.next c.loop-cell.cells
+    subst (ShowsCells c.args.style c.args.table.now c.args.layout.now) (sym c.from_vec.ensures)
+    (cells-all c.args.style c.args.table.now c.args.layout.now c.loop-cell.cell-index c.loop-cell.next c.loop-cell.cells.items
     (subst (λ items. length items ≤ c.loop-cell.cell-index) c.as_slice-cell-items.ensures c.loop-cell-test.false)
-    c.loop-cell.invariant
+    c.loop-cell.invariant)

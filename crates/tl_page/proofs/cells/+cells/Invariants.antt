@@ -17,4 +17,5 @@ abbrev pub invariant-cell_part-loop-block : goal.invariant-cell_part-loop-block
 invariant-cell_part-loop-block l = BlocksSoFar l.style l.width l.cell.blocks l.inner l.fn.next l.block-index l.next l.lines
 
 abbrev pub invariant-drawn_cells-loop-cell : goal.invariant-drawn_cells-loop-cell
-invariant-drawn_cells-loop-cell l = CellsSoFar l.style (out-Table l.table) (out-Layout l.layout) l.cell-index l.next l.cells
+invariant-drawn_cells-loop-cell l =
+    CellsSoFar l.style (out-Table l.table) (out-Layout l.layout) l.cell-index l.next l.cells.items

@@ -19,15 +19,15 @@ of_result P breaking node (Ok table) each becomes = each table becomes
 of_result P breaking node (Err error) each becomes = tt
 
 pub returns-clause-sound : goal.returns-clause-sound
-returns-clause-sound c = of_result IsSound c.args.breaking c.args.node.now c.formed.result
-    (λ table becomes. becomes_sound c.args.breaking c.args.node.now table c.requires becomes) c.formed.ensures.ok
+returns-clause-sound c = of_result IsSound c.args.breaking c.args.node c.formed.result
+    (λ table becomes. becomes_sound c.args.breaking c.args.node table c.requires becomes) c.formed.ensures.ok
 
 pub returns-clause-spellable : goal.returns-clause-spellable
-returns-clause-spellable c = of_result (IsSpellable c.args.breaking) c.args.breaking c.args.node.now c.formed.result
-    (λ table becomes. becomes_spellable c.args.breaking c.args.node.now table c.requires becomes) c.formed.ensures.ok
+returns-clause-spellable c = of_result (IsSpellable c.args.breaking) c.args.breaking c.args.node c.formed.result
+    (λ table becomes. becomes_spellable c.args.breaking c.args.node table c.requires becomes) c.formed.ensures.ok
 
 pub returns-clause-each_err : goal.returns-clause-each_err
-returns-clause-each_err c = each_error c.args.breaking c.args.node.now c.formed.result c.formed.ensures.ok c.formed.ensures.err
+returns-clause-each_err c = each_error c.args.breaking c.args.node c.formed.result c.formed.ensures.ok c.formed.ensures.err
 
 pub returns-clause-each_ok : goal.returns-clause-each_ok
-returns-clause-each_ok c = each_table c.args.breaking c.args.node.now c.formed.result c.formed.ensures.ok c.formed.ensures.err
+returns-clause-each_ok c = each_table c.args.breaking c.args.node c.formed.result c.formed.ensures.ok c.formed.ensures.err

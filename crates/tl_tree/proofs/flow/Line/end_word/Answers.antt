@@ -17,24 +17,24 @@ invariant_of-self c =
     c.replace-word.ensures.value in
     let whole = whole_text bytes (IsUtf8-string_bytes c.args.self.now.word) some c.args.self.now.solid in
     record {
-      whole = whole_push c.push.result c.args.self.now.atoms c.push.new.self (Word c.from_string.result)
-          c.push.ensures.ok c.push.ensures.err
+      whole = whole_push c.put.result c.args.self.now.atoms c.put.new.list (Word c.from_string.result)
+          c.put.ensures.ok c.put.ensures.err
           (rw same whole) c.args.self.now.whole;
       solid = rw (c.replace-word.ensures.after, c.new.ensures.bytes, chars-nil) refl;
     }
 
-pub returns-in_ok-push-clause-word : goal.returns-in_ok-push-clause-word
-returns-in_ok-push-clause-word c = ap (λ w. chars (string_bytes w))
+pub returns-in_ok-put-clause-word : goal.returns-in_ok-put-clause-word
+returns-in_ok-put-clause-word c = ap (λ w. chars (string_bytes w))
     c.replace-word.ensures.after ∙ ap chars c.new.ensures.bytes ∙ chars-nil
 
-pub returns-in_ok-push-clause-atoms : goal.returns-in_ok-push-clause-atoms
-returns-in_ok-push-clause-atoms c =
+pub returns-in_ok-put-clause-atoms : goal.returns-in_ok-put-clause-atoms
+returns-in_ok-put-clause-atoms c =
     let bytes = string_bytes c.args.self.now.word in
     let counted = c.args.self.now.word.bytes.ok.0 in
     let some : 0 < length bytes = grind (arith, nat_tests) in
     let same : c.from_string.result ≡ chars bytes = c.from_string.ensures ∙ ap (λ w. chars (string_bytes w))
     c.replace-word.ensures.value in
-    c.in_ok-push.ensures.ok ∙ ap (λ x. c.args.self.now.atoms ++ Word x ∷ []) same
+    c.in_ok-put.ensures.ok ∙ ap (λ x. c.args.self.now.atoms ++ Word x ∷ []) same
     ∙ ap (λ x. c.args.self.now.atoms ++ x) (sym (open_text bytes (IsUtf8-string_bytes c.args.self.now.word) some))
 
 pub returns-else-not-is_empty-clause-atoms : goal.returns-else-not-is_empty-clause-atoms
