@@ -5,4 +5,5 @@ mod FrontierLaws
 mod Lists
 mod LowerLaws
 mod OrderLaws
+mod RiseLemmas
 mod SearchLaws

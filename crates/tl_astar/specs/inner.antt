@@ -2,4 +2,5 @@
 pub mod Entries
 pub mod Frontier
 pub mod Lower
+pub mod Rises
 pub mod Searches

@@ -1,5 +1,8 @@
 //! How much higher rows become where spans get less room, by the `low` of their cells.
 
+ghost use Rattle.std.specs.Prelude.{OnOk};
+ghost use Rattle.tl_astar.specs.inner.Rises.{AddsRises};
+
 use crate::shape::{Shape, number_at, raise};
 use std::alloc::{AllocError, Global};
 use std::cmp::Reverse;
@@ -151,7 +154,9 @@ fn add_rises(
     room: (u32, u32),
     height: u32,
     rises: &mut Vec<Rise>,
-) -> Result<(), AllocError> {
+) -> Result<(), AllocError>
+    ensures { OnOk result (AddsRises cell.now.low strip room.0 room.1 height rises.old.items rises.new.items) }
+{
     let (least, most) = room;
     let steps = cell.low.configs();
     for number in 1..steps.len() {

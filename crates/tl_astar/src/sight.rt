@@ -118,7 +118,7 @@ fn rows_end(alloc: Global, shape: &Shape, heights: &[u32]) -> Result<u32, AllocE
     let gaps = u64::from(shape.rows).saturating_mul(u64::from(shape.style.row_gap()));
     let mut lines = 0u64;
     for &height in heights {
-        lines = lines.wrapping_add(u64::from(height));
+        lines = lines.saturating_add(u64::from(height));
     }
     Ok(u32::try_from(lines.saturating_add(gaps)).unwrap_or(u32::MAX))
 }
