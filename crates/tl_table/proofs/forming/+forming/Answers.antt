@@ -35,7 +35,8 @@ pub contents-content-requires : goal.contents-content-requires
 contents-content-requires t c =
     let at = comes_to c.into_iter-block-iterator.result c.loop-block.block-iterator c.next.new.self
     c.into_vec-block-items.result c.args.flow c.loop-block.yielded c.in-Some.block
-    c.into_vec-block-items.ensures c.into_iter-block-iterator.ensures.into_iter_gives.0 c.into_iter-block-iterator.ensures.into_iter_gives.1 c.loop-block.yielded_by c.in-Some.is
+    c.into_vec-block-items.ensures c.into_iter-block-iterator.ensures.into_iter_gives.0
+    c.into_iter-block-iterator.ensures.into_iter_gives.1 c.loop-block.yielded_by c.in-Some.is
     c.next.ensures.steps in (
       search (rules, the_lemmas),
       at_item (λ block. AreSound (block_outline block)) c.args.flow (length c.loop-block.yielded) c.in-Some.block
@@ -53,7 +54,8 @@ pub contents-returns-in_err-made-clause-err : goal.contents-returns-in_err-made-
 contents-returns-in_err-made-clause-err t c =
     let at = comes_to c.into_iter-block-iterator.result c.loop-block.block-iterator c.next.new.self
     c.into_vec-block-items.result c.args.flow c.loop-block.yielded c.in-Some.block
-    c.into_vec-block-items.ensures c.into_iter-block-iterator.ensures.into_iter_gives.0 c.into_iter-block-iterator.ensures.into_iter_gives.1 c.loop-block.yielded_by c.in-Some.is
+    c.into_vec-block-items.ensures c.into_iter-block-iterator.ensures.into_iter_gives.0
+    c.into_iter-block-iterator.ensures.into_iter_gives.1 c.loop-block.yielded_by c.in-Some.is
     c.next.ensures.steps in
     let refused : IsMemoryOr (Memory alloc_error) (AreRefused (tables_in_flow c.args.flow)) c.in_err-made.field-0.0 =
     refused_item tables_in_block c.args.flow (length c.loop-block.yielded) c.in-Some.block (Memory alloc_error)
@@ -77,7 +79,8 @@ pub row_cells-bounds-places-len : goal.row_cells-bounds-places-len
 row_cells-bounds-places-len t c =
     let at = comes_to c.into_iter-node-iterator.result c.loop-node.node-iterator c.next.new.self
     c.into_vec-node-items.result c.args.row c.loop-node.yielded c.in-Some.node
-    c.into_vec-node-items.ensures c.into_iter-node-iterator.ensures.into_iter_gives.0 c.into_iter-node-iterator.ensures.into_iter_gives.1 c.loop-node.yielded_by c.in-Some.is
+    c.into_vec-node-items.ensures c.into_iter-node-iterator.ensures.into_iter_gives.0
+    c.into_iter-node-iterator.ensures.into_iter_gives.1 c.loop-node.yielded_by c.in-Some.is
     c.next.ensures.steps in
     omega (
       arith,
@@ -92,7 +95,8 @@ pub row_cells-cell-requires : goal.row_cells-cell-requires
 row_cells-cell-requires t c =
     let at = comes_to c.into_iter-node-iterator.result c.loop-node.node-iterator c.next.new.self
     c.into_vec-node-items.result c.args.row c.loop-node.yielded c.in-Some.node
-    c.into_vec-node-items.ensures c.into_iter-node-iterator.ensures.into_iter_gives.0 c.into_iter-node-iterator.ensures.into_iter_gives.1 c.loop-node.yielded_by c.in-Some.is
+    c.into_vec-node-items.ensures c.into_iter-node-iterator.ensures.into_iter_gives.0
+    c.into_iter-node-iterator.ensures.into_iter_gives.1 c.loop-node.yielded_by c.in-Some.is
     c.next.ensures.steps in (
       search (rules, the_lemmas),
       at_item (λ node. AreSound (cell_outline node)) c.args.row (length c.loop-node.yielded) c.in-Some.node
@@ -103,7 +107,8 @@ pub row_cells-returns-in_err-made-clause-err : goal.row_cells-returns-in_err-mad
 row_cells-returns-in_err-made-clause-err t c =
     let at = comes_to c.into_iter-node-iterator.result c.loop-node.node-iterator c.next.new.self
     c.into_vec-node-items.result c.args.row c.loop-node.yielded c.in-Some.node
-    c.into_vec-node-items.ensures c.into_iter-node-iterator.ensures.into_iter_gives.0 c.into_iter-node-iterator.ensures.into_iter_gives.1 c.loop-node.yielded_by c.in-Some.is
+    c.into_vec-node-items.ensures c.into_iter-node-iterator.ensures.into_iter_gives.0
+    c.into_iter-node-iterator.ensures.into_iter_gives.1 c.loop-node.yielded_by c.in-Some.is
     c.next.ensures.steps in
     let refused : IsMemoryOr (Memory alloc_error) (AreRefused (tables_in_cells c.args.row)) c.in_err-made.field-0.0 =
     refused_item (λ node. (part_of_cell node).inner) c.args.row (length c.loop-node.yielded) c.in-Some.node
@@ -117,7 +122,8 @@ pub row_cells-loop-node-preserved : goal.row_cells-loop-node-preserved
 row_cells-loop-node-preserved t c =
     let at = comes_to c.into_iter-node-iterator.result c.loop-node.node-iterator c.next.new.self
     c.into_vec-node-items.result c.args.row c.loop-node.yielded c.in-Some.node
-    c.into_vec-node-items.ensures c.into_iter-node-iterator.ensures.into_iter_gives.0 c.into_iter-node-iterator.ensures.into_iter_gives.1 c.loop-node.yielded_by c.in-Some.is
+    c.into_vec-node-items.ensures c.into_iter-node-iterator.ensures.into_iter_gives.0
+    c.into_iter-node-iterator.ensures.into_iter_gives.1 c.loop-node.yielded_by c.in-Some.is
     c.next.ensures.steps in
     Writes-cell c.args.breaking c.loop-node.yielded c.in-Some.node c.args.places.now c.args.written.items
     c.loop-node.written.items c.push.new.self.items c.in_ok-made.made c.len.result _ c.loop-node.invariant
@@ -135,7 +141,8 @@ group_cells-row_cells-requires t c =
     let rows = (out-GroupNode c.args.group).rows in
     let at = comes_to c.into_iter-row-iterator.result c.loop-row.row-iterator c.next.new.self
     c.into_vec-row-items.result rows c.loop-row.yielded c.in-Some.row
-    c.into_vec-row-items.ensures c.into_iter-row-iterator.ensures.into_iter_gives.0 c.into_iter-row-iterator.ensures.into_iter_gives.1 c.loop-row.yielded_by c.in-Some.is
+    c.into_vec-row-items.ensures c.into_iter-row-iterator.ensures.into_iter_gives.0
+    c.into_iter-row-iterator.ensures.into_iter_gives.1 c.loop-row.yielded_by c.in-Some.is
     c.next.ensures.steps in (
       search (rules, the_lemmas),
       (
@@ -156,7 +163,8 @@ group_cells-returns-in_err-written-clause-err t c =
     let rows = (out-GroupNode c.args.group).rows in
     let at = comes_to c.into_iter-row-iterator.result c.loop-row.row-iterator c.next.new.self
     c.into_vec-row-items.result rows c.loop-row.yielded c.in-Some.row
-    c.into_vec-row-items.ensures c.into_iter-row-iterator.ensures.into_iter_gives.0 c.into_iter-row-iterator.ensures.into_iter_gives.1 c.loop-row.yielded_by c.in-Some.is
+    c.into_vec-row-items.ensures c.into_iter-row-iterator.ensures.into_iter_gives.0
+    c.into_iter-row-iterator.ensures.into_iter_gives.1 c.loop-row.yielded_by c.in-Some.is
     c.next.ensures.steps in
     let inside : IsMemoryOr (Memory alloc_error) (AreRefused (flat_map tables_in_cells rows)) c.in_err-written.field-0.0 =
     refused_item tables_in_cells rows (length c.loop-row.yielded) c.in-Some.row (Memory alloc_error)
@@ -183,14 +191,16 @@ group_cells-returns-clause-ok t c =
     c.args.places.now c.args.written.items c.loop-row.written.items)
     (yielded_all c.into_iter-row-iterator.result c.loop-row.row-iterator c.next.new.self
     c.into_vec-row-items.result rows c.loop-row.yielded c.into_vec-row-items.ensures
-    c.into_iter-row-iterator.ensures.into_iter_gives.0 c.into_iter-row-iterator.ensures.into_iter_gives.1 c.loop-row.yielded_by c.in-None.is c.next.ensures.steps)
+    c.into_iter-row-iterator.ensures.into_iter_gives.0
+    c.into_iter-row-iterator.ensures.into_iter_gives.1 c.loop-row.yielded_by c.in-None.is c.next.ensures.steps)
     c.loop-row.invariant
 
 pub written_cells-group_cells-requires : goal.written_cells-group_cells-requires
 written_cells-group_cells-requires t c =
     let at = comes_to c.into_iter-group-iterator.result c.loop-group.group-iterator c.next.new.self
     c.into_vec-group-items.result c.args.groups c.loop-group.yielded c.in-Some.group
-    c.into_vec-group-items.ensures c.into_iter-group-iterator.ensures.into_iter_gives.0 c.into_iter-group-iterator.ensures.into_iter_gives.1 c.loop-group.yielded_by c.in-Some.is
+    c.into_vec-group-items.ensures c.into_iter-group-iterator.ensures.into_iter_gives.0
+    c.into_iter-group-iterator.ensures.into_iter_gives.1 c.loop-group.yielded_by c.in-Some.is
     c.next.ensures.steps in (
       search (rules, the_lemmas),
       (
@@ -210,7 +220,8 @@ pub written_cells-returns-in_err-written-2-clause-err : goal.written_cells-retur
 written_cells-returns-in_err-written-2-clause-err t c =
     let at = comes_to c.into_iter-group-iterator.result c.loop-group.group-iterator c.next.new.self
     c.into_vec-group-items.result c.args.groups c.loop-group.yielded c.in-Some.group
-    c.into_vec-group-items.ensures c.into_iter-group-iterator.ensures.into_iter_gives.0 c.into_iter-group-iterator.ensures.into_iter_gives.1 c.loop-group.yielded_by c.in-Some.is
+    c.into_vec-group-items.ensures c.into_iter-group-iterator.ensures.into_iter_gives.0
+    c.into_iter-group-iterator.ensures.into_iter_gives.1 c.loop-group.yielded_by c.in-Some.is
     c.next.ensures.steps in
     let refused : IsMemoryOr (Memory alloc_error) (AreRefused (tables_in_groups c.args.groups)) c.in_err-written-2.field-0.0 =
     refused_item (λ (group : GroupNode). (part_of_group group).inner) c.args.groups (length c.loop-group.yielded)
