@@ -1,21 +1,17 @@
 -- The rises of a cell say how high it is at each room, found step by step.
-use Rattle.std.proofs.Common.{◌≡◌, ℕ, ◌+◌, ◌-◌, ◌<◌, ◌≤◌, List, [], ◌∷◌, ◌++◌, inl, inr, length, get_or}
+use Rattle.std.proofs.Common.{◌≡◌, ℕ, ◌+◌, ◌-◌, ◌<◌, ◌≤◌, List, [], ◌∷◌, ◌++◌, inl, inr, length}
 use Rattle.std.proofs.Common.{Some, None, sym, ap, ◌∙◌, subst, arith}
 use Rattle.std.specs.List.{All}
 use Rattle.std.specs.Option.{IsSomeAnd}
 use Rattle.std.proofs.lemmas.Bool.{cases_lt}
-use Rattle.std.proofs.lemmas.List.{append_assoc, append-nil, get_or_default}
+use Rattle.std.proofs.lemmas.List.{append_assoc, append-nil}
 use Rattle.std.proofs.lemmas.List.Elements.{All-push, Contains-append_left, Contains-push}
 use Rattle.tl_base.specs.declared.steps.Config.{Config}
-use Rattle.tl_base.specs.Steps.{AreSteps, first_width, height_at, IsLowAt}
-use Rattle.tl_base.proofs.Decreasing.{no_step, falls, height_at-step, height_at-below, first_width-is}
-use Rattle.tl_problem.proofs.Heights.{IsLowAt-from, IsLowAt-wider, height-same}
+use Rattle.tl_base.specs.Steps.{AreSteps, height_at, IsLowAt}
+use Rattle.tl_base.proofs.Decreasing.{no_step, height_at-step, height_at-below, first_width-is}
+use Rattle.tl_problem.proofs.Heights.{IsLowAt-from, IsLowAt-wider, height-between, step_at}
 use Rattle.tl_astar.specs.declared.rises.Rise.{Rise}
 use Rattle.tl_astar.specs.inner.Rises.{IsRiseOf, IsNeeded, SayHeight, AddsRises}
-
--- the step with this number
-abbrev pub step_at : List Config → ℕ → Config
-step_at steps k = get_or steps k no_step
 
 -- the rises that the first steps make: none is invented, and at rooms below the last of them none is left out
 pub record AddsUpto (steps : List Config) (upto strip least most lines : ℕ) (old new : List Rise) : Type 0 where
@@ -42,31 +38,6 @@ SayHeight-last rises rise room height wide high =
     (has.0, rise, has.1, has.2, (wide, high))
 
 module _ (steps : List Config) (are : AreSteps steps) where
-  -- from a step up to below the next one the height is that of the step
-  pub height-between : (k room : ℕ) → k < length steps → (step_at steps k).width ≤ room →
-      (k + 1 < length steps → room < (step_at steps (k + 1)).width) → height_at steps room ≡ Some (step_at steps k).height
-  height-between k room within from below =
-      sym (height-same steps (step_at steps k).width room from none) ∙ height_at-step steps are k within where
-        none : All (λ step. (step_at steps k).width < step.width → step.width ≤ room → ⊥) steps
-        none j d inside past upto =
-            let same = ap (λ s. s.width) (get_or_default steps j d no_step inside) in
-            elim (cases_lt k j) [
-              | inr before ↦ elim (cases_lt j k) [
-                | inl less ↦ let fall = falls steps are j k less within in omega (arith, fall.0, past, same)
-                | inr equal ↦
-                    let here : j ≡ k = omega (arith, before, equal) in
-                    omega (arith, past, same, ap (λ i. (step_at steps i).width) here)
-              ]
-              | inl after ↦
-                  let wide = below (omega (arith, after, inside)) in
-                  elim (cases_lt (k + 1) j) [
-                    | inl later ↦ let fall = falls steps are (k + 1) j later inside in omega (arith, fall.0, upto, same, wide)
-                    | inr next ↦
-                        let here : j ≡ k + 1 = omega (arith, after, next) in
-                        omega (arith, upto, same, wide, ap (λ i. (step_at steps i).width) here)
-                  ]
-            ]
-
   -- below the next step a cell is at least as high as at this one
   pub high-before : (k room height : ℕ) → k + 1 < length steps → room < (step_at steps (k + 1)).width →
       height_at steps room ≡ Some height → (step_at steps k).height ≤ height
@@ -76,7 +47,7 @@ module _ (steps : List Config) (are : AreSteps steps) where
         (IsLowAt-from steps height room is) in
         subst (λ o. IsSomeAnd o (λ h. h ≤ height)) (height_at-step steps are k (omega (arith, within))) low
     | inr later ↦
-        let same = sym (height-between k room (omega (arith, within)) later (λ _. below)) ∙ is in
+        let same = sym (height-between steps are k room (omega (arith, within)) later (λ _. below)) ∙ is in
         let equal : (step_at steps k).height ≡ height = cc in
         omega (arith, equal)
   ]
@@ -103,8 +74,8 @@ module _ (steps : List Config) (are : AreSteps steps) where
         room ≤ most → (k + 1 < length steps → most < (step_at steps (k + 1)).width) →
         height_at steps room ≡ Some height → height ≤ lines
     low-after k room height within low from upto below is =
-        let at_most = height-between k most within (omega (arith, from, upto)) below in
-        let at_room = height-between k room within from (λ more. omega (arith, below more, upto)) in
+        let at_most = height-between steps are k most within (omega (arith, from, upto)) below in
+        let at_room = height-between steps are k room within from (λ more. omega (arith, below more, upto)) in
         let same : height_at steps most ≡ Some height = at_most ∙ sym at_room ∙ is in
         subst (λ o. IsSomeAnd o (λ h. h ≤ lines)) same low
 
@@ -122,7 +93,7 @@ module _ (steps : List Config) (are : AreSteps steps) where
           (step_at steps (number - 1)).height ≡ height
       height-here room height from below is =
           let wide = subst (λ i. room < (step_at steps i).width) (last ∙ sym prior) below in
-          let same = sym (height-between (number - 1) room (omega (arith, within)) from (λ _. wide)) ∙ is in
+          let same = sym (height-between steps are (number - 1) room (omega (arith, within)) from (λ _. wide)) ∙ is in
           cc
 
       -- a step is passed over: it makes no rise between the rooms that is above the lines

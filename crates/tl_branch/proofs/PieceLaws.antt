@@ -16,7 +16,6 @@ use Rattle.tl_problem.specs.Agreement.{HasOneClass}
 use Rattle.tl_problem.specs.Zones.{range_at, IsZone, InZone, lower_part, upper_part}
 use Rattle.tl_problem.specs.Bounds.{HasNoWidths, IsBound}
 use Rattle.tl_problem.specs.Tight.{IsTight}
-use Rattle.tl_problem.proofs.BoundLaws.{bound-below_placement}
 use Rattle.tl_problem.proofs.ZoneLaws.{lower-is_zone, upper-is_zone}
 use Rattle.tl_cert.specs.declared.trace.CutAt.{CutAt}
 use Rattle.tl_cert.specs.Traces.{zone_at, IsZoneOf, Stands, IsCut, IsKeen}
@@ -27,8 +26,7 @@ use Rattle.tl_solve.specs.Arenas.{IsBoundFound, IsLookedAt}
 use Rattle.tl_solve.specs.Orders.{IsFirstCut}
 use Rattle.tl_solve.specs.Piece.{final_height, HasBoundIn, IsPieceOf}
 use Rattle.tl_solve.proofs.Agreeing.{one_class-differ}
-use Rattle.tl_solve.proofs.ArenaLaws.{looked-lower}
-use Rattle.tl_solve.proofs.Opening.{placement_in-unique}
+use Rattle.tl_solve.proofs.ArenaLaws.{looked-keen, looked-lower}
 use Rattle.tl_solve.proofs.WalkLaws.{closed-lower, pairs-init, pairs-last}
 use Rattle.tl_branch.specs.declared.lowest.Lowest.{Lowest}
 use Rattle.tl_branch.specs.declared.under_way.Waiting.{Waiting}
@@ -509,16 +507,7 @@ module _ (problem : ProblemModel) (sound : IsSound problem) (zone : List Range) 
 pub under_way-keen : (problem : ProblemModel) → IsSound problem → (zone : List Range) (trace : List CutAt) (height : ℕ) →
     ((z : ℕ) → IsZoneOf trace z → IsLookedAt problem (zone_at zone trace z) height) → IsKeen problem zone trace height
 under_way-keen problem sound zone trace height looked z placed there placement =
-    let Among = InZone problem (zone_at zone trace z) in
-    elim (looked z there) [
-      | inl none ↦ absurd (none placed.widths placement.columns.kind)
-      | inr (inl high) ↦
-          let below = bound-below_placement problem sound Among high.0 placed high.1 placement.columns.kind placement.placement in
-          omega (arith, below, high.2)
-      | inr (inr found) ↦
-          let same = placement_in-unique problem Among found.0 placed found.1 placement in
-          omega (arith, ap (λ (p : Placed). p.height) same, found.2)
-    ]
+    looked-keen problem sound (zone_at zone trace z) height (looked z there) placed placement
 
 -- once nothing is on the stack it is a piece
 pub under_way-piece : (problem : ProblemModel) → IsSound problem → (zone : List Range) (given quota : ℕ) (trace : List CutAt)

@@ -1,13 +1,15 @@
 -- Decreasing step functions: wider is no higher, a height stands from the first width on, and changes where a step begins.
-use Rattle.std.proofs.Common.{cond, ◌≡◌, ℕ, ◌<◌, ◌≤◌, suc, Bool, true, false, nat_le, List, [], ◌∷◌, length, get_or, filter}
+use Rattle.std.proofs.Common.{cond, ◌≡◌, ℕ, ◌+◌, ◌<◌, ◌≤◌, suc, Bool, true, false, nat_le, List, [], ◌∷◌, length, get_or, filter}
 use Rattle.std.proofs.Common.{Option, Some, None, refl}
 use Rattle.std.proofs.Common.{sym, ap, ◌∙◌, subst, inl, inr, arith}
 use Rattle.std.specs.Option.{option_map, IsSomeAnd}
 use Rattle.std.specs.List.{All, AllPairs, last_or}
 use Rattle.std.proofs.lemmas.Bool.{cases_lt}
 use Rattle.std.proofs.lemmas.Bool.Decides.{nat_tests}
+use Rattle.std.proofs.lemmas.List.{get_or_default}
 use Rattle.tl_base.specs.declared.steps.Config.{Config}
 use Rattle.tl_base.specs.Steps.{AreSteps, first_width, height_at, IsLowAt}
+use Rattle.tl_base.proofs.Decreasing.{no_step, falls, height_at-step}
 use Rattle.tl_base.proofs.Members.{AllPairs-head, AllPairs-tail}
 
 -- tests and what they mean
@@ -128,4 +130,33 @@ height-same steps w v more none =
               | inl wider ↦ test_le_false at.width w wide ∙ sym (test_le_false at.width v wider)
               | inr between ↦ absurd (none k d within wide between)
             ]
+          ]
+
+-- the step with this number
+abbrev pub step_at : List Config → ℕ → Config
+step_at steps k = get_or steps k no_step
+
+-- from a step up to below the next one the height is that of the step
+pub height-between : (steps : List Config) → AreSteps steps → (k room : ℕ) → k < length steps → (step_at steps k).width ≤ room →
+    (k + 1 < length steps → room < (step_at steps (k + 1)).width) → height_at steps room ≡ Some (step_at steps k).height
+height-between steps are k room within from below =
+    sym (height-same steps (step_at steps k).width room from none) ∙ height_at-step steps are k within where
+      none : All (λ step. (step_at steps k).width < step.width → step.width ≤ room → ⊥) steps
+      none j d inside past upto =
+          let same = ap (λ s. s.width) (get_or_default steps j d no_step inside) in
+          elim (cases_lt k j) [
+            | inr before ↦ elim (cases_lt j k) [
+              | inl less ↦ let fall = falls steps are j k less within in omega (arith, fall.0, past, same)
+              | inr equal ↦
+                  let here : j ≡ k = omega (arith, before, equal) in
+                  omega (arith, past, same, ap (λ i. (step_at steps i).width) here)
+            ]
+            | inl after ↦
+                let wide = below (omega (arith, after, inside)) in
+                elim (cases_lt (k + 1) j) [
+                  | inl later ↦ let fall = falls steps are (k + 1) j later inside in omega (arith, fall.0, upto, same, wide)
+                  | inr next ↦
+                      let here : j ≡ k + 1 = omega (arith, after, next) in
+                      omega (arith, upto, same, wide, ap (λ i. (step_at steps i).width) here)
+                ]
           ]

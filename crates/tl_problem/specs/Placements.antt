@@ -1,10 +1,12 @@
 -- Placements: widths within the page with the least heights of rows under them, by `high`.
 use Rattle.std.specs.Prelude.{◌≡◌, ℕ, ◌≤◌, List, length}
 use Rattle.tl_base.specs.Style.{gap_of, row_gap_of}
+use Rattle.tl_problem.specs.declared.placed.Outline.{Outline}
 use Rattle.tl_problem.specs.declared.placed.Placed.{Placed}
 use Rattle.tl_base.specs.Sizes.{position}
 use Rattle.tl_problem.specs.Problem.{ProblemModel, total_width, total_height}
 use Rattle.tl_problem.specs.Layouts.{WithinPage, GiveHigh}
+use Rattle.tl_problem.specs.Bounds.{IsBound}
 
 -- of all sizes of this kind, these begin each column, or row, at the least place, and end at the least
 pub record AreLeast (gap : ℕ) (OfKind : List ℕ → Type 0) (sizes : List ℕ) : Type 0 where
@@ -27,3 +29,12 @@ pub record IsPlacementIn (problem : ProblemModel) (Among : List ℕ → Type 0) 
 -- the opening: the placement at the least positions of all widths within the page
 abbrev pub IsOpening : ProblemModel → Placed → Type 0
 IsOpening problem placed = IsPlacementIn problem (WithinPage problem) placed
+
+-- the outline of a set of widths: its bound, and the widths at its least positions
+pub record IsOutline (problem : ProblemModel) (Among : List ℕ → Type 0) (outline : Outline) : Type 0 where
+  pub bound : IsBound problem Among outline.bound
+  pub widths : AreLeast (gap_of problem.style) Among outline.widths
+
+-- no rows that give each cell its `high` under these widths are lower than the height
+abbrev pub HasNoLower : ProblemModel → List ℕ → ℕ → Type 0
+HasNoLower problem widths height = (heights : List ℕ) → GiveHigh problem widths heights → height ≤ total_height problem heights

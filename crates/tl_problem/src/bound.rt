@@ -3,11 +3,11 @@
 ghost use Rattle.std.specs.Prelude.{◌≡◌, ℕ, ◌+◌, ◌<◌, ◌≤◌, pos, ◌+ℤ◌, ◌≤ℤ◌, List, length, Contains};
 ghost use Rattle.std.specs.Prelude.{Some, IfOk, MatchOption};
 ghost use Rattle.tl_base.specs.Style.{gap_of};
-ghost use Rattle.tl_base.specs.Steps.{height_at};
+ghost use Rattle.tl_base.specs.Steps.{first_width, height_at};
 ghost use Rattle.tl_diff.specs.Bounds.{IsSatisfiable, assignment_of};
 ghost use Rattle.tl_problem.specs.Bounds.{HasNoWidths, IsBound, IsGreatestRoom};
 ghost use Rattle.tl_problem.specs.Layouts.{WithinPage};
-ghost use Rattle.tl_problem.specs.Placements.{AreLeast, IsPlacementIn};
+ghost use Rattle.tl_problem.specs.Placements.{AreLeast, IsOutline, IsPlacementIn};
 ghost use Rattle.tl_problem.specs.Sound.{IsSound, IsSoundCell};
 ghost use Rattle.tl_problem.specs.Works.{AreAllowed, IsWorkOf, KeepsPage, widths_of};
 ghost use Rattle.tl_problem.specs.Zones.{InZone, IsZone};
@@ -16,9 +16,9 @@ ghost use Rattle.tl_problem.specs.inner.Needs.{IsLeastRoom, NeedLow};
 use crate::constraints::add_ranges;
 use crate::demands::least_height;
 use crate::placing::place_under;
-use crate::{Cell, Placed, Problem, Work, Zone};
+use crate::{Cell, Outline, Placed, Problem, Work, Zone};
 use std::alloc::AllocError;
-use tl_base::{List, MAX_PAGE_WIDTH};
+use tl_base::{List, MAX_PAGE_WIDTH, Steps};
 use tl_diff::{Arc, Matrix};
 
 impl Problem {
@@ -71,6 +71,22 @@ impl Problem {
         bound
     }
 
+    /// The widths at the least positions of the zone. `None` exactly where no widths lie in the zone.
+    /// Constraints that a caller added to the work do not matter, and stay.
+    pub fn least_in(&self, zone: &Zone, work: &mut Work) -> Result<Option<List<u32>>, AllocError>
+        requires zone { IsZone self.now zone.now }
+        requires work { IsWorkOf self.now work.old }
+        ensures widths { IfOk result (λ found. MatchOption found (HasNoWidths (InZone self.now zone.now))
+            (AreLeast (gap_of self.now.style) (InZone self.now zone.now))) }
+        ensures work_of { IsWorkOf self.now work.new }
+        ensures matrix { work.new.matrix ≡ work.old.matrix }
+    {
+        work.start.mark();
+        let found = zone_widths(self, zone, &mut work.start);
+        work.start.undo();
+        found
+    }
+
     /// The placement at the least positions of the zone. `None` exactly where no widths lie in the
     /// zone. Constraints that a caller added to the work do not matter, and stay.
     pub fn place_in(&self, zone: &Zone, work: &mut Work) -> Result<Option<Placed>, AllocError>
@@ -81,16 +97,86 @@ impl Problem {
         ensures work_of { IsWorkOf self.now work.new }
         ensures matrix { work.new.matrix ≡ work.old.matrix }
     {
-        work.start.mark();
-        let attempt = zone_widths(self, zone, &mut work.start);
-        work.start.undo();
-        let found = attempt?;
+        let found = self.least_in(zone, work)?;
         let Some(widths) = found else {
             return Ok(None);
         };
         let placed = place_under(self, widths.as_slice())?;
         Ok(Some(placed))
     }
+
+    /// The bound of the zone, and the widths at its least positions. `None` exactly where no widths lie in
+    /// the zone. Constraints that a caller added to the work do not matter, and stay.
+    pub fn outline_of(&self, zone: &Zone, work: &mut Work) -> Result<Option<Outline>, AllocError>
+        requires zone { IsZone self.now zone.now }
+        requires work { IsWorkOf self.now work.old }
+        ensures outline { IfOk result (λ found. MatchOption found (HasNoWidths (InZone self.now zone.now))
+            (IsOutline self.now (InZone self.now zone.now))) }
+        ensures work_of { IsWorkOf self.now work.new }
+        ensures matrix { work.new.matrix ≡ work.old.matrix }
+    {
+        work.start.mark();
+        let found = zone_outline(
+            self,
+            zone,
+            &mut work.start,
+            &mut work.demands,
+            &mut work.arcs,
+            &mut work.ends,
+        );
+        work.start.undo();
+        found
+    }
+}
+
+/// The outline of the zone, whose constraints join those of the page. `demands`, `arcs` and `ends` are room.
+fn zone_outline(
+    problem: &Problem,
+    zone: &Zone,
+    matrix: &mut Matrix,
+    demands: &mut [u32],
+    arcs: &mut [Arc],
+    ends: &mut [u32],
+) -> Result<Option<Outline>, AllocError>
+    requires sound { IsSound problem.now }
+    requires zone { IsZone problem.now zone.now }
+    requires keeps { KeepsPage problem.now matrix.old.bounds }
+    requires whole { (widths : List ℕ) → WithinPage problem.now widths → AreAllowed problem.now matrix.old.bounds widths }
+    requires demand_room { length demands.old ≡ length problem.now.cells }
+    requires arc_room { length arcs.old ≡ length problem.now.cells }
+    requires end_room { length ends.old ≡ problem.now.rows + 1 }
+    ensures outline { IfOk result (λ found. MatchOption found (HasNoWidths (InZone problem.now zone.now))
+        (IsOutline problem.now (InZone problem.now zone.now))) }
+    ensures held { matrix.new.held ≡ matrix.old.held }
+    ensures marks { matrix.new.marks ≡ matrix.old.marks }
+{
+    if !add_ranges(problem, zone, matrix) {
+        return Ok(None);
+    }
+    let outline = outline_in(problem, matrix, demands, arcs, ends)?;
+    Ok(Some(outline))
+}
+
+/// The bound of the widths that the matrix leaves, of which there are some, and those at the least places.
+/// `demands`, `arcs` and `ends` are room.
+fn outline_in(
+    problem: &Problem,
+    matrix: &Matrix,
+    demands: &mut [u32],
+    arcs: &mut [Arc],
+    ends: &mut [u32],
+) -> Result<Outline, AllocError>
+    requires sound { IsSound problem.now }
+    requires keeps { KeepsPage problem.now matrix.now.bounds }
+    requires some { IsSatisfiable matrix.now.bounds }
+    requires demand_room { length demands.old ≡ length problem.now.cells }
+    requires arc_room { length arcs.old ≡ length problem.now.cells }
+    requires end_room { length ends.old ≡ problem.now.rows + 1 }
+    ensures { IfOk result (IsOutline problem.now (AreAllowed problem.now matrix.now.bounds)) }
+{
+    let bound = bound_in(problem, matrix, demands, arcs, ends);
+    let widths = least_widths(problem, matrix)?;
+    Ok(Outline { bound, widths })
 }
 
 /// The widths at the least places in the zone, whose constraints join those of the page.
@@ -191,7 +277,21 @@ fn low_at_greatest(problem: &Problem, gap: u32, matrix: &Matrix, cell: &Cell) ->
         × (height_at cell.now.low w ≡ Some result)) }
 {
     let room = greatest_room(problem, gap, matrix, cell);
-    cell.low.height_at(room).unwrap()
+    height_in(&cell.low, room)
+}
+
+/// The height at a room that is not below the first width. At the greatest rooms it is most often that of the last
+/// step, which so is looked at first.
+fn height_in(steps: &Steps, room: u32) -> u32
+    requires { first_width steps.now ≤ room }
+    ensures { height_at steps.now room ≡ Some result }
+{
+    let configs = steps.configs();
+    let last = configs[configs.len() - 1];
+    if last.width <= room {
+        return last.height;
+    }
+    steps.height_at(room).unwrap()
 }
 
 /// The greatest room of the cell's span.

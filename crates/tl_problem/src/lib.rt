@@ -23,7 +23,7 @@ pub use laws::{
     area_bound_is_below_layouts, bound_is_below_layouts, bound_is_below_placements,
     cuts_are_partitions, one_class_is_exact, tight_once, tight_raises_nothing, whole_has_all,
 };
-pub use placed::Placed;
+pub use placed::{Outline, Placed};
 pub use problem::Problem;
 pub use work::Work;
 pub use zone::{Range, Zone};

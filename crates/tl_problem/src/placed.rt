@@ -1,4 +1,5 @@
-//! Placements: widths of columns with the least heights of rows under them.
+//! Placements: widths of columns with the least heights of rows under them. And what is found of a zone before it
+//! is placed.
 use tl_base::List;
 
 /// Widths of a problem's columns, in columns of the page, and the least heights of its rows under
@@ -13,4 +14,13 @@ pub struct Placed {
     pub width: u32,
     /// The total height, with gaps and edges.
     pub height: u32,
+}
+
+/// What is found of a zone that has widths before it is placed.
+#[derive(Debug, Drop)]
+pub struct Outline {
+    /// Its bound, in lines.
+    pub bound: u32,
+    /// The widths at its least positions, in columns of the page.
+    pub widths: List<u32>,
 }

@@ -2,18 +2,21 @@
 
 ghost use Rattle.std.specs.Prelude.{◌≡◌, ℕ, ◌+◌, ◌<◌, ◌≤◌, length, sum, IfOk, IsTrue, ◌↔◌, MatchOption};
 ghost use Rattle.tl_base.specs.Steps.{AreSteps, IsLeastWidthFor, first_width, height_at};
-ghost use Rattle.tl_problem.specs.Layouts.{WithinPage};
-ghost use Rattle.tl_problem.specs.Placements.{IsOpening, IsPlacement};
-ghost use Rattle.tl_base.specs.Sizes.{room};
+ghost use Rattle.tl_problem.specs.Layouts.{GiveHigh, WithinPage};
+ghost use Rattle.tl_problem.specs.Placements.{HasNoLower, IsOpening, IsPlacement};
+ghost use Rattle.tl_base.specs.Sizes.{IsLeastTotal, room};
+ghost use Rattle.tl_base.specs.Style.{edge_of, row_gap_of};
 ghost use Rattle.tl_problem.specs.Sound.{IsSound};
 ghost use Rattle.tl_problem.specs.Tight.{IsTightFrom};
+ghost use Rattle.tl_problem.specs.Works.{IsWorkOf};
 ghost use Rattle.tl_problem.specs.inner.Needs.{NeedHigh, NeedLeast, NeedWidths};
 
 use crate::axis::Axis;
-use crate::demands::least_sizes;
-use crate::{Cell, Placed, Problem};
+use crate::demands::{least_height, least_sizes};
+use crate::{Cell, Placed, Problem, Work};
 use std::alloc::AllocError;
 use tl_base::{List, MAX_COLUMNS, MAX_PAGE_WIDTH, room_on_page, total_size};
+use tl_diff::Arc;
 
 impl Problem {
     /// The least heights of the rows under these widths, by the `high` steps of the cells. `None`
@@ -24,6 +27,35 @@ impl Problem {
             (λ placed. IsPlacement self.now placed × (placed.widths ≡ widths.now))) }
     {
         if !is_within_page(self, widths) {
+            return Ok(None);
+        }
+        let placed = place_under(self, widths)?;
+        Ok(Some(placed))
+    }
+
+    /// The placement under these widths, where it is lower than `height` lines. `None` exactly where no rows
+    /// under them are.
+    pub fn place_lower(
+        &self,
+        widths: &[u32],
+        height: u32,
+        work: &mut Work,
+    ) -> Result<Option<Placed>, AllocError>
+        requires page { WithinPage self.now widths.now }
+        requires work { IsWorkOf self.now work.old }
+        ensures lower { IfOk result (λ found. MatchOption found (HasNoLower self.now widths.now height)
+            (λ placed. IsPlacement self.now placed × (placed.widths ≡ widths.now) × (placed.height < height))) }
+        ensures work_of { IsWorkOf self.now work.new }
+        ensures matrix { work.new.matrix ≡ work.old.matrix }
+    {
+        let least = height_under(
+            self,
+            widths,
+            &mut work.demands,
+            &mut work.arcs,
+            &mut work.ends,
+        );
+        if least >= height {
             return Ok(None);
         }
         let placed = place_under(self, widths)?;
@@ -122,6 +154,38 @@ fn high_needs(problem: &Problem, cells: &[Cell], widths: &[u32]) -> Result<Vec<u
         demands.push(high_at(gap, widths, &cells[number]))?;
     }
     Ok(demands)
+}
+
+/// The least total height of rows under these widths. `demands`, `arcs` and `ends` are room.
+fn height_under(
+    problem: &Problem,
+    widths: &[u32],
+    demands: &mut [u32],
+    arcs: &mut [Arc],
+    ends: &mut [u32],
+) -> u32
+    requires page { WithinPage problem.now widths.now }
+    requires demand_room { length demands.old ≡ length problem.now.cells }
+    requires arc_room { length arcs.old ≡ length problem.now.cells }
+    requires end_room { length ends.old ≡ problem.now.rows + 1 }
+    ensures { IsLeastTotal (row_gap_of problem.now.style) (edge_of problem.now.style) (GiveHigh problem.now widths.now) result }
+{
+    fill_high(problem, widths, demands);
+    least_height(problem, demands, arcs, ends)
+}
+
+/// Fills `demands` with the height that each cell needs by `high` under these widths.
+fn fill_high(problem: &Problem, widths: &[u32], demands: &mut [u32])
+    requires page { WithinPage problem.now widths.now }
+    requires room { length demands.old ≡ length problem.now.cells }
+    ensures high { NeedHigh problem.now widths.now demands.new }
+    ensures sound { IsSound problem.now }
+{
+    let gap = problem.style().gap();
+    let cells = problem.cells();
+    for number in 0..cells.len() {
+        demands[number] = high_at(gap, widths, &cells[number]);
+    }
 }
 
 /// The least width at which each cell needs no more by `high` than under these widths.

@@ -211,6 +211,23 @@ fn shown(alloc: Global, placed: &Placed) -> Result<String, Fail> {
     )?)
 }
 
+/// The widths at the least positions of the zone, found alone and with the bound.
+fn outlined(alloc: Global, problem: &Problem, zone: &Zone) -> Result<String, Fail>
+    requires { IsZone problem.now zone.now }
+{
+    let mut work = Work::new(problem)?;
+    let Some(outline) = problem.outline_of(zone, &mut work)? else {
+        return Ok(String::from_str(alloc, "None")?);
+    };
+    let least = problem.least_in(zone, &mut work)?.ok_or("no widths")?;
+    Ok(format!(in alloc;
+        "{} {:?} {:?}",
+        outline.bound,
+        outline.widths.as_slice(),
+        least.as_slice()
+    )?)
+}
+
 /// The bound and the area bound of the zone, and the placement in it.
 fn found_in(alloc: Global, problem: &Problem, zone: &Zone) -> Result<String, Fail>
     requires { IsZone problem.now zone.now }
@@ -315,6 +332,59 @@ fn a_placement_has_the_least_heights_under_its_widths(rt: HostRuntime) -> Result
         let found = shown_placed(rt.alloc(), &problem, widths)?;
         assert_eq!(rt; found.as_str(), wanted, "{page} {cells} {widths}");
     }
+    Ok(())
+}
+
+/// The placement under widths that are written so, where it is lower than this height.
+fn shown_lower(
+    alloc: Global,
+    problem: &Problem,
+    widths: &str,
+    height: u32,
+) -> Result<String, Fail> {
+    let placed = placed(alloc, problem, widths)?.ok_or("no placement")?;
+    let mut work = Work::new(problem)?;
+    match problem.place_lower(placed.widths.as_slice(), height, &mut work)? {
+        Some(lower) => shown(alloc, &lower),
+        None => Ok(String::from_str(alloc, "None")?),
+    }
+}
+
+// In 3 and 5 columns both cells have two lines, in 8 and 2 columns the second has three.
+#[test]
+fn a_placement_is_given_where_it_is_lower(rt: HostRuntime) -> Result<(), Fail> {
+    let problem = problem(rt.alloc(), "plain 2x1 12", TWO_CELLS)?;
+    for (widths, height, wanted) in [
+        ("3 5", 3u32, "[3, 5] [2] 10x2"),
+        ("3 5", 2, "None"),
+        ("8 2", 4, "[8, 2] [3] 12x3"),
+        ("8 2", 3, "None"),
+        ("8 2", 0, "None"),
+    ] {
+        let found = shown_lower(rt.alloc(), &problem, widths, height)?;
+        assert_eq!(rt; found.as_str(), wanted, "{widths} {height}");
+    }
+    Ok(())
+}
+
+// The parts of the zone with all widths of two cells, cut after the first class of the first: in the lower part
+// it has at most 6 columns and so two lines, in the upper part 7, which leave the second 3 columns and three
+// lines. Their least widths are the page's, and 7 and 2.
+#[test]
+fn parts_have_bounds_and_least_widths(rt: HostRuntime) -> Result<(), Fail> {
+    let problem = problem(rt.alloc(), "plain 2x1 12", TWO_CELLS)?;
+    let whole = whole(&problem)?;
+    let (lower, upper) = cut(&whole, &problem, 0)?;
+    let found = format!(in rt.alloc();
+        "{}; {}; {}",
+        outlined(rt.alloc(), &problem, &whole)?,
+        outlined(rt.alloc(), &problem, &lower)?,
+        outlined(rt.alloc(), &problem, &upper)?
+    )?;
+    assert_eq!(rt;
+        found.as_str(),
+        "2 [3, 2] [3, 2]; 2 [3, 2] [3, 2]; 3 [7, 2] [7, 2]"
+    );
     Ok(())
 }
 

@@ -17,7 +17,7 @@ use Rattle.tl_problem.specs.Zones.{span_at, range_at, first_in_class, last_in_cl
 use Rattle.tl_problem.specs.Agreement.{HasOneClass, AgreeIn, DifferIn}
 use Rattle.tl_problem.specs.Bounds.{IsBound}
 use Rattle.tl_problem.proofs.BoundLaws.{bound-unique}
-use Rattle.tl_problem.proofs.OneClass.{one_class-height}
+use Rattle.tl_problem.proofs.OneClass.{high-from_greatest}
 use Rattle.tl_problem.proofs.ZoneLaws.{cases_eq}
 use Rattle.tl_solve.specs.Arenas.{IsLookedAt}
 
@@ -154,9 +154,9 @@ module _ (problem : ProblemModel) (zone : List Range) where
               let same = bound-unique problem (InZone problem zone) bound high.0 bounds high.1 in
               absurd (omega (arith, same, high.2, below))
           | inr (inr found) ↦
-              let placed = found.0 in
-              let exact = one_class-height problem sound zone is one agree placed.widths placed.heights bound found.1.columns.kind
-              found.1.placement.rows bounds in
-              absurd (omega (arith, exact, found.1.placement.height, found.2, below))
+              let rows = bounds.least.attained in
+              let enough = high-from_greatest problem sound zone is one agree found.0 rows.0 found.1.kind rows.1 in
+              let above = found.2 rows.0 enough in
+              absurd (omega (arith, above, rows.2, below))
         ]
       ]

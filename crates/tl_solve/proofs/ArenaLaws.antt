@@ -1,28 +1,31 @@
 -- The arena of a problem when it is opened, and after a further cut.
-use Rattle.std.proofs.Common.{◌≡◌, ℕ, ◌+◌, ◌*◌, ◌<◌, ◌≤◌, List, [], ◌∷◌, ◌++◌, inl, inr, length, get_or, Option, refl, sym, ap}
+use Rattle.std.proofs.Common.{◌≡◌, ℕ, ◌+◌, ◌*◌, ◌<◌, ◌≤◌, List, [], ◌∷◌, ◌++◌, inl, inr, length, get_or, Option, Some, None, IsSome, MatchOption, refl, sym, ap}
 use Rattle.std.proofs.Common.{◌∙◌, subst, arith}
 use Rattle.std.proofs.Common.{append_assoc, length-append}
 use Rattle.std.specs.List.{All}
 use Rattle.std.proofs.lemmas.List.Elements.{All-nil, All-push}
 use Rattle.tl_base.specs.declared.limits.TheConstants.{MAX_BUDGET}
+use Rattle.tl_base.specs.Style.{gap_of, row_gap_of, edge_of}
 use Rattle.tl_problem.specs.declared.placed.Placed.{Placed}
 use Rattle.tl_problem.specs.declared.zone.Range.{Range}
 use Rattle.tl_problem.specs.Problem.{ProblemModel}
 use Rattle.tl_problem.specs.Sound.{IsSound}
 use Rattle.tl_problem.specs.Zones.{whole_zone, IsZone, InZone, lower_part, upper_part}
-use Rattle.tl_problem.specs.Bounds.{IsBound}
-use Rattle.tl_problem.specs.Placements.{IsOpening}
+use Rattle.tl_problem.specs.Bounds.{HasNoWidths, IsBound}
+use Rattle.tl_problem.specs.Layouts.{GiveHigh}
+use Rattle.tl_problem.specs.Placements.{AreLeast, HasNoLower, IsPlacement, IsPlacementIn, IsOpening}
 use Rattle.tl_problem.specs.Tight.{IsTightFrom, IsTight}
 use Rattle.tl_problem.specs.Works.{IsWorkOf}
 use Rattle.tl_problem.proofs.BoundLaws.{bound-below_placement}
-use Rattle.tl_problem.proofs.SetLaws.{opening-in_whole}
+use Rattle.tl_problem.proofs.SetLaws.{opening-in_whole, bound-within}
+use Rattle.tl_problem.proofs.TightLaws.{least-total, least-unique}
 use Rattle.tl_problem.proofs.ZoneLaws.{whole-is_zone}
 use Rattle.tl_cert.specs.declared.trace.CutAt.{CutAt}
 use Rattle.tl_cert.specs.Traces.{with_parts, zones_of, zone_of, IsZoneOf, IsCut, IsTraceOf, IsKeen}
 use Rattle.tl_cert.proofs.TraceLaws.{zone-old, zone-lower, zone-upper, zone-cases, cuts-there, zones-are, zones-push, trace-push}
 use Rattle.tl_solve.specs.declared.arena.Arena.{Arena}
-use Rattle.tl_solve.specs.Arenas.{IsBoundFound, AreBoundsOf, HasBoundBelow, IsLookedAt, IsLowered, IsArenaOf}
-use Rattle.tl_solve.proofs.Opening.{placement_in-unique, tight-opening, opening-is_tight}
+use Rattle.tl_solve.specs.Arenas.{IsBoundFound, AreBoundsOf, HasBoundBelow, IsLookedAt, IsKnownFor, IsLowered, IsArenaOf}
+use Rattle.tl_solve.proofs.Opening.{tight-opening, opening-is_tight}
 use Rattle.tl_solve.proofs.ZoneLists.{zones-count, zone-item, found-more}
 
 -- a lower placement is below what the old one was
@@ -42,7 +45,66 @@ pub looked-lower : (problem : ProblemModel) (zone : List Range) (height best : �
     IsLookedAt problem zone best
 looked-lower problem zone height best less (inl none) = inl none
 looked-lower problem zone height best less (inr (inl high)) = inr (inl (high.0, high.1, omega (arith, less, high.2)))
-looked-lower problem zone height best less (inr (inr found)) = inr (inr (found.0, found.1, omega (arith, less, found.2)))
+looked-lower problem zone height best less (inr (inr found)) = inr (inr (
+  found.0,
+  found.1,
+  λ heights give. omega (arith, less, found.2 heights give),
+))
+
+-- under the widths of a placement no rows are lower than its own
+pub no_lower-placement : (problem : ProblemModel) (placed : Placed) (height : ℕ) → IsPlacement problem placed →
+    height ≤ placed.height → HasNoLower problem placed.widths height
+no_lower-placement problem placed height is upto heights give =
+    let less = least-total (row_gap_of problem.style) (edge_of problem.style) (GiveHigh problem placed.widths) placed.heights
+    heights is.rows give (is.rows.kind.rows ∙ sym give.rows) in
+    omega (arith, less, is.height, upto)
+
+-- a zone whose placement is no lower was looked at
+pub looked-placed : (problem : ProblemModel) (zone : List Range) (placed : Placed) (height : ℕ) →
+    IsPlacementIn problem (InZone problem zone) placed → height ≤ placed.height → IsLookedAt problem zone height
+looked-placed problem zone placed height is upto =
+    inr (inr (placed.widths, is.columns, no_lower-placement problem placed height is.placement upto))
+
+-- a zone that was looked at has no lower placement
+pub looked-keen : (problem : ProblemModel) → IsSound problem → (zone : List Range) (height : ℕ) → IsLookedAt problem zone height →
+    (placed : Placed) → IsPlacementIn problem (InZone problem zone) placed → height ≤ placed.height
+looked-keen problem sound zone height (inl none) placed is = absurd (none placed.widths is.columns.kind)
+looked-keen problem sound zone height (inr (inl high)) placed is =
+    let below = bound-below_placement problem sound (InZone problem zone) high.0 placed high.1 is.columns.kind is.placement in
+    omega (arith, below, high.2)
+looked-keen problem sound zone height (inr (inr found)) placed is =
+    let same = least-unique (gap_of problem.style) (InZone problem zone) placed.widths found.0
+    (is.placement.page.columns ∙ sym found.1.kind.page.columns) is.columns found.1 in
+    let give = subst (λ widths. GiveHigh problem widths placed.heights) same is.placement.rows.kind in
+    omega (arith, found.2 placed.heights give, is.placement.height)
+
+-- the widths at the least positions of a zone that was looked at are known for each part of it
+pub known-part : (problem : ProblemModel) → IsSound problem → (zone part : List Range) (widths : List ℕ) (height : ℕ) →
+    ((ws : List ℕ) → InZone problem part ws → InZone problem zone ws) → IsLookedAt problem zone height →
+    AreLeast (gap_of problem.style) (InZone problem zone) widths → IsKnownFor problem part widths height
+known-part problem sound zone part widths height within (inl none) least bound is below =
+    absurd (none is.some.0 (within is.some.0 is.some.1))
+known-part problem sound zone part widths height within (inr (inl high)) least bound is below =
+    let less = bound-within problem sound (InZone problem part) (InZone problem zone) within (λ ws inside. inside.page) bound high.0
+    is high.1 in
+    absurd (omega (arith, less, high.2, below))
+known-part problem sound zone part widths height within (inr (inr found)) least bound is below =
+    let same = least-unique (gap_of problem.style) (InZone problem zone) found.0 widths
+    (found.1.kind.page.columns ∙ sym least.kind.page.columns) found.1 least in
+    subst (λ ws. HasNoLower problem ws height) same found.2
+
+-- a zone with widths has some at its least positions
+pub least-some : (problem : ProblemModel) (zone : List Range) (found : Option (List ℕ)) (bound : ℕ) →
+    IsBound problem (InZone problem zone) bound →
+    MatchOption found (HasNoWidths (InZone problem zone)) (AreLeast (gap_of problem.style) (InZone problem zone)) → IsSome found
+least-some problem zone None bound is none = absurd (none is.some.0 is.some.1)
+least-some problem zone (Some widths) bound is least = refl
+
+-- and so they are for a lower height
+pub known-lower : (problem : ProblemModel) (part : List Range) (widths : List ℕ) (height best : ℕ) → best ≤ height →
+    IsKnownFor problem part widths height → IsKnownFor problem part widths best
+known-lower problem part widths height best less known bound is below heights give =
+    omega (arith, less, known bound is (omega (arith, below, less)) heights give)
 
 -- ---- before any cut
 
@@ -53,7 +115,7 @@ module _ (problem : ProblemModel) (sound : IsSound problem) where
   open-looked opening is z there =
       let first : z ≡ 0 = omega (arith, there) in
       subst (λ n. IsLookedAt problem (zone_of problem [] n) opening.height) (sym first)
-      (inr (inr (opening, opening-in_whole problem sound opening is, omega arith)))
+      (looked-placed problem (whole_zone problem) opening opening.height (opening-in_whole problem sound opening is) (omega arith))
 
   open-bounds : (found : Option ℕ) → IsBoundFound problem (whole_zone problem) found → AreBoundsOf problem [] (found ∷ [])
   open-bounds found is = record {
@@ -222,16 +284,7 @@ arena-more problem old new cut low high first second is now below few into =
 pub arena-keen : (problem : ProblemModel) → IsSound problem → (arena : Arena) → IsArenaOf problem arena →
     IsKeen problem (whole_zone problem) arena.trace arena.best.height
 arena-keen problem sound arena is z placed there placement =
-    let Among = InZone problem (zone_of problem arena.trace z) in
-    elim (is.looked z there) [
-      | inl none ↦ absurd (none placed.widths placement.columns.kind)
-      | inr (inl high) ↦
-          let below = bound-below_placement problem sound Among high.0 placed high.1 placement.columns.kind placement.placement in
-          omega (arith, below, high.2)
-      | inr (inr found) ↦
-          let same = placement_in-unique problem Among found.0 placed found.1 placement in
-          omega (arith, ap (λ (p : Placed). p.height) same, found.2)
-    ]
+    looked-keen problem sound (zone_of problem arena.trace z) arena.best.height (is.looked z there) placed placement
 
 -- the zones of the arena are those of its trace, and zones of the problem
 pub arena-item : (problem : ProblemModel) (arena : Arena) → IsArenaOf problem arena → (z : ℕ) (item : List Range) →

@@ -2,12 +2,13 @@
 use Rattle.std.specs.Prelude.{◌≡◌, ℕ, ◌+◌, ◌*◌, ◌<◌, ◌≤◌, ◌⊎◌, List, length, get_or, Option, MatchOption}
 use Rattle.std.specs.List.{All}
 use Rattle.tl_base.specs.declared.limits.TheConstants.{MAX_BUDGET}
+use Rattle.tl_base.specs.Style.{gap_of}
 use Rattle.tl_problem.specs.declared.placed.Placed.{Placed}
 use Rattle.tl_problem.specs.declared.zone.Range.{Range}
 use Rattle.tl_problem.specs.Problem.{ProblemModel}
 use Rattle.tl_problem.specs.Zones.{whole_zone, InZone}
 use Rattle.tl_problem.specs.Bounds.{HasNoWidths, IsBound}
-use Rattle.tl_problem.specs.Placements.{IsPlacementIn, IsOpening}
+use Rattle.tl_problem.specs.Placements.{AreLeast, HasNoLower, IsOpening}
 use Rattle.tl_problem.specs.Tight.{IsTight}
 use Rattle.tl_problem.specs.Works.{IsWorkOf}
 use Rattle.tl_cert.specs.declared.trace.CutAt.{CutAt}
@@ -28,13 +29,18 @@ pub record AreBoundsOf (problem : ProblemModel) (trace : List CutAt) (bounds : L
 abbrev pub HasBoundBelow : ProblemModel → List CutAt → ℕ → ℕ → Type 0
 HasBoundBelow problem trace z height = (bound : ℕ) × IsBoundOf problem trace z bound × (bound < height)
 
--- the zone was looked at for a placement that is lower: it has no widths, or a bound of at least the height, or the height is
--- at most that of its placement
+-- the zone was looked at for a placement that is lower: it has no widths, or a bound of at least the height, or no rows are
+-- lower under the widths at its least positions
 abbrev pub IsLookedAt : ProblemModel → List Range → ℕ → Type 0
 IsLookedAt problem zone height =
     HasNoWidths (InZone problem zone)
     ⊎ (((bound : ℕ) × IsBound problem (InZone problem zone) bound × (height ≤ bound))
-    ⊎ ((placed : Placed) × IsPlacementIn problem (InZone problem zone) placed × (height ≤ placed.height)))
+    ⊎ ((widths : List ℕ) × AreLeast (gap_of problem.style) (InZone problem zone) widths × HasNoLower problem widths height))
+
+-- of these widths it is known that no rows are lower under them, if the zone has a bound below the height
+abbrev pub IsKnownFor : ProblemModel → List Range → List ℕ → ℕ → Type 0
+IsKnownFor problem zone widths height = (bound : ℕ) → IsBound problem (InZone problem zone) bound → bound < height →
+    HasNoLower problem widths height
 
 -- a placement is kept, or replaced by a lower one
 abbrev pub IsLowered : Placed → Placed → Type 0

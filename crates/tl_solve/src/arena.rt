@@ -159,9 +159,11 @@ impl Arena {
         ensures opening { OnOk result (self.new.opening ≡ self.old.opening) }
         ensures lowered { OnOk result (IsLowered self.old.best self.new.best) }
     {
-        let (lower, upper) = self.zones[cut.zone as usize].cut(cut.span, cut.class)?;
-        let lower_bound = look(problem, &lower, &mut self.work, &mut self.best)?;
-        let upper_bound = look(problem, &upper, &mut self.work, &mut self.best)?;
+        let zone = &self.zones[cut.zone as usize];
+        let (lower, upper) = zone.cut(cut.span, cut.class)?;
+        let least = problem.least_in(zone, &mut self.work)?.unwrap();
+        let lower_bound = look(problem, &lower, &least, &mut self.work, &mut self.best)?;
+        let upper_bound = look(problem, &upper, &least, &mut self.work, &mut self.best)?;
         self.zones.push(lower)?;
         self.zones.push(upper)?;
         self.bounds.push(lower_bound)?;

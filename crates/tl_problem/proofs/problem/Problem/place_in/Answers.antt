@@ -4,28 +4,19 @@ use Rattle.tl_problem.specs.Placements.{AreLeast}
 use Rattle.tl_problem.specs.Zones.{InZone}
 use Rattle.tl_problem.proofs.problem.Problem.place_in.Goals as goal
 
-pub zone_widths-attempt-requires-clause-sound : goal.zone_widths-attempt-requires-clause-sound
-zone_widths-attempt-requires-clause-sound c = c.requires.work.sound
-
-pub zone_widths-attempt-requires-clause-keeps : goal.zone_widths-attempt-requires-clause-keeps
-zone_widths-attempt-requires-clause-keeps c = rw c.mark.ensures c.requires.work.start.keeps
-
-pub zone_widths-attempt-requires-clause-whole : goal.zone_widths-attempt-requires-clause-whole
-zone_widths-attempt-requires-clause-whole c = rw c.mark.ensures c.requires.work.start.whole
-
 pub returns-in_default-clause-placed : goal.returns-in_default-clause-placed
-returns-in_default-clause-placed c = rw (c.in_ok-found.was, c.in_default.is) at c.zone_widths-attempt.ensures.widths
+returns-in_default-clause-placed c = rw c.in_default.is at c.in_ok-found.ensures.widths
 
 pub place_under-requires : goal.place_under-requires
 place_under-requires c =
-    let least : AreLeast (gap_of c.args.self.now.style) (InZone c.args.self.now c.args.zone.now) c.in-Some.widths = rw
-    (c.in_ok-found.was, c.in-Some.is) at c.zone_widths-attempt.ensures.widths in
+    let least : AreLeast (gap_of c.args.self.now.style) (InZone c.args.self.now c.args.zone.now) c.in-Some.widths =
+    rw c.in-Some.is at c.in_ok-found.ensures.widths in
     rw c.as_slice.ensures least.kind.page
 
 pub returns-clause-placed : goal.returns-clause-placed
 returns-clause-placed c =
-    let least : AreLeast (gap_of c.args.self.now.style) (InZone c.args.self.now c.args.zone.now) c.in-Some.widths = rw
-    (c.in_ok-found.was, c.in-Some.is) at c.zone_widths-attempt.ensures.widths in
+    let least : AreLeast (gap_of c.args.self.now.style) (InZone c.args.self.now c.args.zone.now) c.in-Some.widths =
+    rw c.in-Some.is at c.in_ok-found.ensures.widths in
     record {
       columns = rw (c.in_ok-placed.ensures.1, c.as_slice.ensures) least;
       placement = c.in_ok-placed.ensures.0;
