@@ -3,7 +3,7 @@
 --       0            zone 1: bound 3, area bound 6
 --      / \           zone 2: bound 4, area bound 2
 --     1   2
-use Rattle.std.proofs.Common.{◌≡◌, ℕ, List, [], ◌∷◌, ◌⊎◌, inl, inr, length, get_or, refl, ap, subst}
+use Rattle.std.proofs.Common.{◌≡◌, ℕ, ◌<◌, List, [], ◌∷◌, ◌⊎◌, inl, inr, length, get_or, refl, ap, ◌∙◌, subst}
 use Rattle.std.proofs.Common.{arith}
 use Rattle.std.proofs.lemmas.Bool.{cases_lt}
 use Rattle.tl_base.specs.declared.style.Style.TheVariants.{Plain}
@@ -21,6 +21,9 @@ use Rattle.tl_problem.proofs.Heights.{test_le, test_le_false}
 use Rattle.tl_cert.specs.declared.trace.CutAt.{CutAt}
 use Rattle.tl_cert.specs.Traces.{Stands, zone_of}
 use Rattle.tl_cert.specs.Worked.{IsBoundOf}
+use Rattle.tl_astar.specs.declared.rises.Rise.{Rise}
+use Rattle.tl_astar.specs.declared.rises.Rises.{Rises}
+use Rattle.tl_astar.specs.inner.Rises.{Wants, rises_of}
 use Rattle.tl_astar.specs.Best.{CutsBelowByArea, HaveSameSteps, IsShut, MayBeLower, IsOfLeastBound, IsAreaOf, IsLeastProved}
 
 abbrev cut_of : ℕ → CutAt
@@ -199,3 +202,47 @@ low_is_high cell has w within = elim (Contains-cases past_the_page [] cell has) 
 -- and yet the steps are not the same
 not_same : HaveSameSteps narrow → ⊥
 not_same same = let steps = same 0 past_the_page (omega arith) in omega (arith, ap length steps)
+
+-- ---- what rises want
+
+-- a cell of strip 0 has two lines below nine columns and four below five, one of strip 1 three below seven
+abbrev nine : Rise
+nine = record { width = 9; strip = 0; height = 2 }
+
+abbrev seven : Rise
+seven = record { width = 7; strip = 1; height = 3 }
+
+abbrev five : Rise
+five = record { width = 5; strip = 0; height = 4 }
+
+-- where the first span ends after one of three rises, and the second after all, the second has the last two
+second_span : (rises : Rises) → rises.all.items ≡ nine ∷ seven ∷ five ∷ [] → rises.ends.items ≡ 1 ∷ 3 ∷ [] →
+    rises_of rises 1 ≡ seven ∷ five ∷ []
+second_span rises all ends = rw (all, ends) refl
+
+-- at six columns strip 0 is to have two lines
+two_wanted : Wants (nine ∷ seven ∷ five ∷ []) 6 0 2
+two_wanted = record {
+  number = 0;
+  rise = nine;
+  there = omega arith;
+  is = refl;
+  wider = λ k d before.
+      let first : 0 ≡ k = omega (arith, before) in
+      subst (λ n. 6 < (get_or (nine ∷ seven ∷ five ∷ []) n d).width) first (omega arith);
+  of_strip = refl;
+  high = refl;
+}
+
+-- and not four
+four_not_wanted : Wants (nine ∷ seven ∷ five ∷ []) 6 0 4 → ⊥
+four_not_wanted wants = elim (cases_lt wants.number 2) [
+  | inr third ↦ omega (arith, wants.wider 2 five third)
+  | inl before ↦ elim (cases_lt wants.number 1) [
+    | inl first ↦ omega (arith, high 0 (omega (arith, first)))
+    | inr second ↦ omega (arith, high 1 (omega (arith, before, second)))
+  ]
+] where
+  high : (n : ℕ) → wants.number ≡ n → (get_or (nine ∷ seven ∷ five ∷ []) n wants.rise).height ≡ 4
+  high n is = subst (λ k. (get_or (nine ∷ seven ∷ five ∷ []) k wants.rise).height ≡ 4) is
+      (ap (λ rise. rise.height) wants.is ∙ wants.high)

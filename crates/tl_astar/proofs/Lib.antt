@@ -5,5 +5,6 @@ mod FrontierLaws
 mod Lists
 mod LowerLaws
 mod OrderLaws
+mod RaiseLemmas
 mod RiseLemmas
 mod SearchLaws

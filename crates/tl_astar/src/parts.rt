@@ -1,7 +1,9 @@
 //! Where a cut of a zone raises the bounds of its parts most.
 
+ghost use Rattle.std.specs.Prelude.{◌≡◌, ◌≤◌, ℕ, length, slice_index, EachIndex, OnOk};
+ghost use Rattle.tl_astar.specs.inner.Rises.{AreHighEnough, Wants, rises_of};
+
 use crate::columns::{column_places, is_on_page};
-use crate::rises::raise_heights;
 use crate::shape::{Shape, class_of, number_at};
 use crate::sight::{Sight, total_height};
 use crate::spread::{signed, unsigned};
@@ -19,6 +21,63 @@ pub(crate) struct Place {
     lesser: u32,
 }
 
+/// The rooms and heights of a part of a cut. One is filled again for each part, so that none allocates anew.
+#[derive(Drop)]
+struct Part {
+    /// The room of each span, in columns.
+    rooms: Vec<u32>,
+    /// The height of each strip, in lines.
+    heights: Vec<u32>,
+}
+
+impl Part {
+    /// Finds the rooms of the spans under the limit `x_b - x_a <= most`, and how high the cells of every span
+    /// make the strips at these rooms.
+    fn fill(
+        &mut self,
+        shape: &Shape,
+        sight: &Sight,
+        limit: (u32, u32, i32),
+    ) -> Result<(), AllocError>
+        ensures each_span { OnOk result (EachIndex shape.now.spans.items (λ span.
+            AreHighEnough (Wants (rises_of sight.now.rises span) (slice_index self.new.rooms.items span))
+            self.new.heights.items)) }
+        ensures no_lower { OnOk result ((strip : ℕ) →
+            slice_index sight.now.heights.items strip ≤ slice_index self.new.heights.items strip) }
+    {
+        self.find_rooms(shape, sight, limit)?;
+        self.heights.clear();
+        self.heights.extend_from_slice(&sight.heights)?;
+        sight.rises.raise_all(&self.rooms, &mut self.heights);
+        Ok(())
+    }
+
+    /// Finds the greatest room of each span under the limit `x_b - x_a <= most`. A span without rises makes no
+    /// strip higher at any room, so it gets 0.
+    fn find_rooms(
+        &mut self,
+        shape: &Shape,
+        sight: &Sight,
+        limit: (u32, u32, i32),
+    ) -> Result<(), AllocError>
+        ensures { OnOk result (length self.new.rooms.items ≡ length shape.now.spans.items) }
+    {
+        let (a, b, most) = limit;
+        let gap = signed(shape.style.gap());
+        self.rooms.clear();
+        for number in 0..shape.spans.len() {
+            if sight.rises.of_span(number).is_empty() {
+                self.rooms.push(0)?;
+            } else {
+                let span = &shape.spans[number];
+                let apart = sight.spread.limited(a, b, most, span.left, span.right);
+                self.rooms.push(unsigned(apart.saturating_sub(gap)))?;
+            }
+        }
+        Ok(())
+    }
+}
+
 /// Of the cuts at balanced rooms the one whose parts have the greatest bounds together, each counted up to
 /// `height`; of equals the one whose lesser bound is the greatest, and then the first. `None` where each
 /// span has the class of its greatest room alone.
@@ -29,7 +88,10 @@ pub(crate) fn best_place(
     height: u32,
 ) -> Result<Option<Place>, AllocError> {
     let rooms = balanced_rooms(alloc, shape, sight)?;
-    let mut heights = Vec::new(alloc);
+    let mut part = Part {
+        rooms: Vec::new(alloc),
+        heights: Vec::new(alloc),
+    };
     let mut best: Option<Place> = None;
     for span in 0..shape.spans.len() {
         let classes = shape.classes_of(span);
@@ -37,7 +99,7 @@ pub(crate) fn best_place(
         let last = class_of(classes, number_at(&sight.most, span));
         if first < last {
             let class = class_of(classes, number_at(&rooms, span)).clamp(first, last - 1);
-            let place = place_at(alloc, shape, sight, (span, class), height, &mut heights)?;
+            let place = place_at(alloc, shape, sight, (span, class), height, &mut part)?;
             if is_better(&place, &best) {
                 best = Some(place);
             }
@@ -56,14 +118,14 @@ fn is_better(place: &Place, best: &Option<Place>) -> bool {
     }
 }
 
-/// The cut of the span after the class, with the bounds of its parts. `heights` is room.
+/// The cut of the span after the class, with the bounds of its parts. What `part` holds is lost.
 fn place_at(
     alloc: Global,
     shape: &Shape,
     sight: &Sight,
     cut: (usize, usize),
     height: u32,
-    heights: &mut Vec<u32>,
+    part: &mut Part,
 ) -> Result<Place, AllocError> {
     let (span, class) = cut;
     let gap = signed(shape.style.gap());
@@ -78,8 +140,8 @@ fn place_at(
     let begins = signed(number_at(shape.classes_of(span), class.saturating_add(1)));
     let narrow = begins.saturating_sub(1).saturating_add(gap);
     let wide = begins.saturating_add(gap).saturating_neg();
-    let lower = part_bound(alloc, shape, sight, (left, right, narrow), height, heights)?;
-    let upper = part_bound(alloc, shape, sight, (right, left, wide), height, heights)?;
+    let lower = part_bound(alloc, shape, sight, (left, right, narrow), height, part)?;
+    let upper = part_bound(alloc, shape, sight, (right, left, wide), height, part)?;
     Ok(Place {
         span,
         class,
@@ -89,30 +151,21 @@ fn place_at(
 }
 
 /// The bound of the part of the zone under the limit `x_b - x_a <= most`, counted up to `height`, which a
-/// part without widths counts. `heights` is room.
+/// part without widths counts. What `part` holds is lost.
 fn part_bound(
     alloc: Global,
     shape: &Shape,
     sight: &Sight,
     limit: (u32, u32, i32),
     height: u32,
-    heights: &mut Vec<u32>,
+    part: &mut Part,
 ) -> Result<u32, AllocError> {
     let (a, b, most) = limit;
     if sight.spread.at(b, a).saturating_add(most) < 0 {
         return Ok(height);
     }
-    let gap = signed(shape.style.gap());
-    heights.clear();
-    heights.extend_from_slice(&sight.heights)?;
-    for (number, span) in shape.spans.iter().enumerate() {
-        let rises = sight.rises.of_span(number);
-        if !rises.is_empty() {
-            let apart = sight.spread.limited(a, b, most, span.left, span.right);
-            raise_heights(rises, unsigned(apart.saturating_sub(gap)), heights);
-        }
-    }
-    let bound = total_height(alloc, shape, heights)?;
+    part.fill(shape, sight, limit)?;
+    let bound = total_height(alloc, shape, &part.heights)?;
     Ok(bound.min(height))
 }
 

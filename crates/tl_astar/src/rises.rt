@@ -1,7 +1,7 @@
 //! How much higher rows become where spans get less room, by the `low` of their cells.
 
-ghost use Rattle.std.specs.Prelude.{OnOk};
-ghost use Rattle.tl_astar.specs.inner.Rises.{AddsRises};
+ghost use Rattle.std.specs.Prelude.{◌≡◌, ◌≤◌, ℕ, length, slice_index, EachIndex, SomeIndex, OnOk};
+ghost use Rattle.tl_astar.specs.inner.Rises.{AddsRises, AreHighEnough, AreNoHigher, Raises, Wants, rises_of};
 
 use crate::shape::{Shape, number_at, raise};
 use std::alloc::{AllocError, Global};
@@ -71,8 +71,25 @@ impl Rises {
         }
     }
 
+    /// Makes each strip as high, in lines, as the rises of every span want it at the span's room, in columns.
+    /// A cell of any span may decide a row, so the rises of each of them count.
+    pub(crate) fn raise_all(&self, rooms: &[u32], heights: &mut [u32])
+        ensures len { length heights.new ≡ length heights.old }
+        ensures no_lower { (strip : ℕ) → slice_index heights.old strip ≤ slice_index heights.new strip }
+        ensures each_span { EachIndex rooms.now (λ span.
+            AreHighEnough (Wants (rises_of self.now span) (slice_index rooms.now span)) heights.new) }
+        ensures no_higher { AreNoHigher (λ strip height. SomeIndex rooms.now (λ span.
+            Wants (rises_of self.now span) (slice_index rooms.now span) strip height)) heights.old heights.new }
+    {
+        for span in 0..rooms.len() {
+            raise_heights(self.of_span(span), rooms[span], heights);
+        }
+    }
+
     /// The rises of a span, the widest first.
-    pub(crate) fn of_span(&self, span: usize) -> &[Rise] {
+    pub(crate) fn of_span(&self, span: usize) -> &[Rise]
+        ensures { result.now ≡ rises_of self.now span }
+    {
         let begin = match span {
             0 => 0,
             _ => self.end_of(span - 1),
@@ -84,13 +101,17 @@ impl Rises {
     }
 
     /// Where the rises of a span end.
-    fn end_of(&self, span: usize) -> usize {
+    fn end_of(&self, span: usize) -> usize
+        ensures { result ≡ slice_index self.now.ends.items span }
+    {
         self.ends.get(span).copied().unwrap_or(0)
     }
 }
 
 /// Makes each strip as high as rises of a span want it at this room.
-pub(crate) fn raise_heights(rises: &[Rise], room: u32, heights: &mut [u32]) {
+pub(crate) fn raise_heights(rises: &[Rise], room: u32, heights: &mut [u32])
+    ensures { Raises (Wants rises.now room) heights.old heights.new }
+{
     for rise in rises {
         if rise.width <= room {
             return;

@@ -1,6 +1,6 @@
 //! How the cells of a problem lie: by their spans of columns, and by their strips of rows. It knows no zone.
 
-ghost use Rattle.std.specs.Prelude.{◌<◌, length};
+ghost use Rattle.std.specs.Prelude.{◌≡◌, ◌<◌, length, max, slice_index, slice_set};
 ghost use Rattle.tl_problem.specs.Spans.{spans_of};
 
 use std::alloc::{AllocError, Global};
@@ -88,12 +88,12 @@ pub(crate) fn number_at(numbers: &[u32], place: usize) -> u32 {
     numbers.get(place).copied().unwrap_or(0)
 }
 
-/// Makes the number at a place at least this.
-pub(crate) fn raise(numbers: &mut [u32], place: usize, least: u32) {
-    if let Some(number) = numbers.get_mut(place) {
-        if *number < least {
-            *number = least;
-        }
+/// Makes the number at a place at least this. Where there is no such place, nothing changes.
+pub(crate) fn raise(numbers: &mut [u32], place: usize, least: u32)
+    ensures { numbers.new ≡ slice_set numbers.old place (max (slice_index numbers.old place) least) }
+{
+    if place < numbers.len() && numbers[place] < least {
+        numbers[place] = least;
     }
 }
 

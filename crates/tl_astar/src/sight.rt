@@ -1,6 +1,6 @@
 //! What is seen of a zone: the rooms of its spans, the heights of its rows, and what rooms its bound wants.
 
-use crate::rises::{Rises, raise_heights, room_for};
+use crate::rises::{Rises, room_for};
 use crate::shape::{Shape, class_of, number_at, raise};
 use crate::spread::{Spread, greatest_rooms, least_rooms, zone_spread};
 use crate::whole::Whole;
@@ -69,9 +69,7 @@ impl Sight {
 /// The height of each strip by `low` at the greatest rooms of a zone.
 fn heights_at(alloc: Global, whole: &Whole, most: &[u32]) -> Result<Vec<u32>, AllocError> {
     let mut heights = Vec::from_slice(alloc, &whole.heights)?;
-    for (span, &room) in most.iter().enumerate() {
-        raise_heights(whole.rises.of_span(span), room, &mut heights);
-    }
+    whole.rises.raise_all(most, &mut heights);
     Ok(heights)
 }
 
