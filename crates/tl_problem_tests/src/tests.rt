@@ -211,21 +211,20 @@ fn shown(alloc: Global, placed: &Placed) -> Result<String, Fail> {
     )?)
 }
 
-/// The widths at the least positions of the zone, found alone and with the bound.
+/// The bound of the zone with the widths at its least positions, and these widths found alone.
 fn outlined(alloc: Global, problem: &Problem, zone: &Zone) -> Result<String, Fail>
     requires { IsZone problem.now zone.now }
 {
     let mut work = Work::new(problem)?;
-    let Some(outline) = problem.outline_of(zone, &mut work)? else {
-        return Ok(String::from_str(alloc, "None")?);
+    let outline = match problem.outline_of(zone, &mut work)? {
+        Some(outline) => format!(in alloc; "{} {:?}", outline.bound, outline.widths.as_slice())?,
+        None => String::from_str(alloc, "None")?,
     };
-    let least = problem.least_in(zone, &mut work)?.ok_or("no widths")?;
-    Ok(format!(in alloc;
-        "{} {:?} {:?}",
-        outline.bound,
-        outline.widths.as_slice(),
-        least.as_slice()
-    )?)
+    let least = match problem.least_in(zone, &mut work)? {
+        Some(least) => format!(in alloc; "{:?}", least.as_slice())?,
+        None => String::from_str(alloc, "None")?,
+    };
+    Ok(format!(in alloc; "{outline} {least}")?)
 }
 
 /// The bound and the area bound of the zone, and the placement in it.
@@ -369,21 +368,23 @@ fn a_placement_is_given_where_it_is_lower(rt: HostRuntime) -> Result<(), Fail> {
 
 // The parts of the zone with all widths of two cells, cut after the first class of the first: in the lower part
 // it has at most 6 columns and so two lines, in the upper part 7, which leave the second 3 columns and three
-// lines. Their least widths are the page's, and 7 and 2.
+// lines. Their least widths are the page's, and 7 and 2. From 5 columns on for the second, no widths are left.
 #[test]
 fn parts_have_bounds_and_least_widths(rt: HostRuntime) -> Result<(), Fail> {
     let problem = problem(rt.alloc(), "plain 2x1 12", TWO_CELLS)?;
     let whole = whole(&problem)?;
     let (lower, upper) = cut(&whole, &problem, 0)?;
+    let none = upper_part(&upper, &problem, 1)?;
     let found = format!(in rt.alloc();
-        "{}; {}; {}",
+        "{}; {}; {}; {}",
         outlined(rt.alloc(), &problem, &whole)?,
         outlined(rt.alloc(), &problem, &lower)?,
-        outlined(rt.alloc(), &problem, &upper)?
+        outlined(rt.alloc(), &problem, &upper)?,
+        outlined(rt.alloc(), &problem, &none)?
     )?;
     assert_eq!(rt;
         found.as_str(),
-        "2 [3, 2] [3, 2]; 2 [3, 2] [3, 2]; 3 [7, 2] [7, 2]"
+        "2 [3, 2] [3, 2]; 2 [3, 2] [3, 2]; 3 [7, 2] [7, 2]; None None"
     );
     Ok(())
 }
