@@ -1,11 +1,12 @@
-//! Pieces of work in groups. The threads of one group run at once, and the next group begins after their
-//! join.
+//! Pieces of work in groups. The threads of one group run at once, each takes the next piece that none has
+//! taken, and the next group begins after their join.
 
-ghost use Rattle.std.specs.Prelude.{◌≡◌, ◌<◌, ◌≤◌, IfOk, Ok, length, map, slice_index, slice_index_or};
+ghost use Rattle.std.specs.Prelude.{◌≡◌, ◌<◌, ◌≤◌, IfOk, Contains, length, slice_index_or, Ok};
 ghost use Rattle.std.specs.List.{All, AllZip, range_with_len};
-ghost use Rattle.std.specs.List.Sorted.{IsNonDecreasingBy, IsPermutation};
+ghost use Rattle.tl_fan.specs.inner.Slots.{AreSlots};
 
 use std::alloc::{AllocError, Global};
+use std::sync::atomic::{AtomicUsize, Ordering};
 use std::thread;
 use std::thread::Threads;
 use tl_base::Gate;
@@ -25,7 +26,8 @@ pub fn places(alloc: Global, count: u32) -> Result<Vec<u32>, AllocError>
 /// several of them, one after the other, as a thread costs more than a small piece.
 const GROUPS: usize = 2;
 
-/// How many pieces one thread does, so that there are [`GROUPS`] groups of `workers` threads.
+/// How many pieces of a group there are for each of its threads, so that there are [`GROUPS`] groups of
+/// `workers` threads.
 fn pieces_each(count: usize, workers: u32) -> usize
     requires { 1 ≤ workers }
     ensures { 1 ≤ result }
@@ -40,67 +42,60 @@ struct Placed<X> {
     one: X,
 }
 
-/// The places of so many pieces in the order in which they are dealt out to so many threads, as cards are:
-/// first those of the first thread, each of them `threads` after the one before, then those of the second,
-/// and so on.
-fn dealt(alloc: Global, count: usize, threads: usize) -> Result<Vec<usize>, AllocError>
-    ensures { IfOk result (λ places. IsPermutation (range_with_len 0 count) places.items) }
+/// What one piece gives. It passes the gate once, before it begins.
+fn done<G: Gate, X: Drop, F: Fn(u32) -> X>(gate: &G, number: u32, piece: &F) -> X
+    requires { F.pre piece.now number }
+    ensures { F.post piece.now number result }
 {
-    let mut places = Vec::new(alloc);
-    for place in 0..count {
-        places.push(place)?;
-    }
-    places.sort_by_key(|place| place % threads.max(1))?;
-    Ok(places)
+    gate.pass(number);
+    piece(number)
 }
 
-/// What the pieces at these places give, one after the other, in their order. Each passes the gate once,
-/// before it begins.
-fn in_turn<G: Gate, X: Drop, F: Fn(u32) -> X>(
+/// What the pieces give that one thread does: each time the next one that no thread has taken, until none
+/// is left.
+fn taken<G: Gate, X: Drop, F: Fn(u32) -> X>(
     alloc: Global,
     gate: &G,
+    next: &AtomicUsize,
     numbers: &[u32],
-    places: &[usize],
     piece: &F,
 ) -> Result<Vec<Placed<X>>, AllocError>
-    requires places { All (λ place. place < length numbers.now) places.now }
-    requires pieces { All (λ number. F.pre piece.now number) numbers.now }
-    ensures { IfOk result (λ found. AllZip (λ place gave. (gave.place ≡ place)
-        × F.post piece.now (slice_index_or numbers.now place 0) gave.one) places.now found.items) }
+    requires { All (λ number. F.pre piece.now number) numbers.now }
+    ensures { IfOk result (λ found. All (λ gave. (gave.place < length numbers.now)
+        × F.post piece.now (slice_index_or numbers.now gave.place 0) gave.one) found.items) }
 {
     let mut found = Vec::new(alloc);
-    for &place in places {
-        let number = numbers[place];
-        gate.pass(number);
-        let one = piece(number);
+    for _ in 0..numbers.len() {
+        let place = next.fetch_add(1, Ordering::SeqCst);
+        if place >= numbers.len() {
+            break;
+        }
+        let one = done(gate, numbers[place], piece);
         found.push(Placed { place, one })?;
     }
     Ok(found)
 }
 
-/// What the pieces at these places give, in their order: so many of them in turn, and all of these runs at
-/// once.
+/// What the pieces of these numbers give, with their places: so many threads take them, and run at once.
 fn at_once<R: Threads + Sync, G: Gate, X: Send + Drop, F: Fn(u32) -> X + Sync>(
     rt: &R,
     alloc: Global,
     gate: &G,
-    each: usize,
+    threads: usize,
     numbers: &[u32],
-    places: &[usize],
     piece: &F,
 ) -> Result<Vec<Placed<X>>, AllocError>
-    requires each { 1 ≤ each }
-    requires places { All (λ place. place < length numbers.now) places.now }
-    requires pieces { All (λ number. F.pre piece.now number) numbers.now }
-    ensures { IfOk result (λ found. AllZip (λ place gave. (gave.place ≡ place)
-        × F.post piece.now (slice_index_or numbers.now place 0) gave.one) places.now found.items) }
+    requires { All (λ number. F.pre piece.now number) numbers.now }
+    ensures { IfOk result (λ found. All (λ gave. (gave.place < length numbers.now)
+        × F.post piece.now (slice_index_or numbers.now gave.place 0) gave.one) found.items) }
 {
-    let run = |_from: usize, some: &[usize]| -> Result<Vec<Placed<X>>, AllocError>
-        requires { All (λ place. place < length numbers.now) some.now × All (λ number. F.pre piece.now number) numbers.now }
-        ensures { IfOk result (λ found. AllZip (λ place gave. (gave.place ≡ place)
-            × F.post piece.entry.now (slice_index_or numbers.entry.now place 0) gave.one) some.entry.now found.items) }
-    { in_turn(alloc, gate, numbers, some, piece) };
-    let runs = thread::map_chunks(rt, alloc, places, each, &run)?;
+    let next = AtomicUsize::new(0);
+    let run = |_thread: usize| -> Result<Vec<Placed<X>>, AllocError>
+        requires { All (λ number. F.pre piece.now number) numbers.now }
+        ensures { IfOk result (λ found. All (λ gave. (gave.place < length numbers.entry.now)
+            × F.post piece.entry.now (slice_index_or numbers.entry.now gave.place 0) gave.one) found.items) }
+    { taken(alloc, gate, &next, numbers, piece) };
+    let runs = thread::map_indices(rt, alloc, threads, &run)?;
     let mut found = Vec::new(alloc);
     for run in runs {
         found.append(&mut run?)?;
@@ -108,30 +103,60 @@ fn at_once<R: Threads + Sync, G: Gate, X: Send + Drop, F: Fn(u32) -> X + Sync>(
     Ok(found)
 }
 
-/// What the pieces gave, in the order of their places.
-fn in_order<X: Drop>(found: Vec<Placed<X>>) -> Result<Vec<Placed<X>>, AllocError>
-    ensures same { IfOk result (λ sorted. IsPermutation found.items sorted.items) }
-    ensures sorted { IfOk result (λ sorted. IsNonDecreasingBy (λ gave. gave.place) sorted.items) }
+/// So many places with nothing.
+fn no_results<X: Drop>(alloc: Global, count: usize) -> Result<Vec<Option<X>>, AllocError>
+    ensures { IfOk result (λ slots. AreSlots count (λ place one. ⊥) slots.items) }
 {
-    let mut sorted = found;
-    sorted.sort_by_key(|gave| gave.place)?;
-    Ok(sorted)
-}
-
-/// What the pieces gave, without their places.
-fn without_places<X: Drop>(alloc: Global, found: Vec<Placed<X>>) -> Result<Vec<X>, AllocError>
-    ensures { IfOk result (λ ones. ones.items ≡ map (λ gave. gave.one) found.items) }
-{
-    let mut ones = Vec::new(alloc);
-    for gave in found {
-        ones.push(gave.one)?;
+    let mut slots = Vec::new(alloc);
+    for _ in 0..count {
+        slots.push(None)?;
     }
-    Ok(ones)
+    Ok(slots)
 }
 
-/// What the pieces of one group give, in the order of their numbers. They are dealt out to at most `workers`
-/// threads, and all of these run at once: where pieces that cost much stand next to each other, each thread
-/// gets its share of them. All do as many pieces, but for the last one, which may do fewer.
+/// At each of so many places what its piece gave, if it was done.
+fn by_place<X: Drop>(
+    alloc: Global,
+    count: usize,
+    found: Vec<Placed<X>>,
+) -> Result<Vec<Option<X>>, AllocError>
+    requires { All (λ gave. gave.place < count) found.items }
+    ensures { IfOk result (λ slots. AreSlots count (λ place one. Contains found.items (record { place = place; one = one })) slots.items) }
+{
+    let mut slots = no_results(alloc, count)?;
+    for Placed { place, one } in found {
+        slots[place] = Some(one);
+    }
+    Ok(slots)
+}
+
+/// What all pieces give, in the order of their numbers, where it is known of some. A piece that no thread
+/// has taken is done here: none is left, but what a counter tells is in no contract.
+fn completed<G: Gate, X: Drop, F: Fn(u32) -> X>(
+    alloc: Global,
+    gate: &G,
+    numbers: &[u32],
+    slots: Vec<Option<X>>,
+    piece: &F,
+) -> Result<Vec<X>, AllocError>
+    requires pieces { All (λ number. F.pre piece.now number) numbers.now }
+    requires slots { AreSlots (length numbers.now) (λ place one. F.post piece.now (slice_index_or numbers.now place 0) one) slots.items }
+    ensures { IfOk result (λ found. AllZip (λ number one. F.post piece.now number one) numbers.now found.items) }
+{
+    let mut slots = slots;
+    let mut found = Vec::new(alloc);
+    for (place, &number) in numbers.iter().enumerate() {
+        let one = match slots[place].take() {
+            Some(one) => one,
+            None => done(gate, number, piece),
+        };
+        found.push(one)?;
+    }
+    Ok(found)
+}
+
+/// What the pieces of one group give, in the order of their numbers. At most `workers` threads take them one
+/// after the other, and run at once.
 fn group_at_once<R: Threads + Sync, G: Gate, X: Send + Drop, F: Fn(u32) -> X + Sync>(
     rt: &R,
     alloc: Global,
@@ -140,20 +165,20 @@ fn group_at_once<R: Threads + Sync, G: Gate, X: Send + Drop, F: Fn(u32) -> X + S
     numbers: &[u32],
     piece: &F,
 ) -> Result<Vec<X>, AllocError>
-    requires workers { 1 ≤ workers }
-    requires pieces { All (λ number. F.pre piece.now number) numbers.now }
+    requires { All (λ number. F.pre piece.now number) numbers.now }
     ensures { IfOk result (λ found. AllZip (λ number one. F.post piece.now number one) numbers.now found.items) }
 {
-    let each = numbers.len().div_ceil(workers as usize).max(1);
-    let places = dealt(alloc, numbers.len(), numbers.len().div_ceil(each))?;
-    let found = at_once(rt, alloc, gate, each, numbers, places.as_slice(), piece)?;
-    without_places(alloc, in_order(found)?)
+    let threads = numbers.len().min(workers as usize);
+    let found = at_once(rt, alloc, gate, threads, numbers, piece)?;
+    let slots = by_place(alloc, numbers.len(), found)?;
+    completed(alloc, gate, numbers, slots, piece)
 }
 
 /// What the pieces of these numbers give, in their order. They run in groups: in each `workers` threads do
 /// as many pieces at once, where so many threads can be made, and the next group begins when all of them
-/// have ended. Where there are many pieces, each thread does several, one after the other, dealt out to the
-/// threads as cards are. Each passes the gate once, before it begins, by its number.
+/// have ended. Where there are many pieces, each thread does several, one after the other: it takes the next
+/// one that none has taken, so that none waits for a slow one. Each piece passes the gate once, before it
+/// begins, by its number.
 pub fn fan_out<R: Threads + Sync, G: Gate, X: Send + Drop, F: Fn(u32) -> X + Sync>(
     rt: &R,
     alloc: Global,

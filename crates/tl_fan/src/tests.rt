@@ -112,7 +112,7 @@ fn two_pieces_of_a_group_are_at_work_at_one_time(rt: HostRuntime) -> Result<(), 
 }
 
 #[test]
-fn of_many_pieces_neighbours_are_in_different_threads(rt: HostRuntime) -> Result<(), Fail> {
+fn of_many_pieces_the_first_two_are_at_work_at_one_time(rt: HostRuntime) -> Result<(), Fail> {
     meet_at_work(&rt, rt.alloc(), 16)?;
     meet_at_work(&rt, rt.alloc(), 201)
 }
@@ -172,6 +172,30 @@ fn a_group_begins_after_the_one_before_has_ended(rt: HostRuntime) -> Result<(), 
 fn of_many_pieces_a_thread_does_several(rt: HostRuntime) -> Result<(), Fail> {
     groups(&rt, rt.alloc(), 8, 4)?;
     groups(&rt, rt.alloc(), 201, 102)
+}
+
+#[test]
+fn a_thread_goes_on_while_another_one_is_slow(rt: HostRuntime) -> Result<(), Fail> {
+    // The first piece waits for all others of its group, of 102 pieces.
+    let ended = AtomicU32::new(0);
+    let piece = |number: u32| -> bool {
+        if number > 0 {
+            ended.fetch_add(1, Ordering::SeqCst);
+            return true;
+        }
+        for _ in 0..TURNS {
+            if ended.load(Ordering::SeqCst) == 101 {
+                return true;
+            }
+        }
+        false
+    };
+    let numbers = places(rt.alloc(), 201)?;
+    let found = fan_out(&rt, rt.alloc(), &NoGate, 2, numbers.as_slice(), &piece)?;
+    for seen in &found {
+        assert!(&rt; *seen);
+    }
+    Ok(())
 }
 
 #[test]

@@ -1,7 +1,0 @@
-use Rattle.std.proofs.Common.{rules}
-use Rattle.std.proofs.lemmas.List.Sorted.{IsNonDecreasingBy-from_sort_by_key}
-use Rattle.tl_fan.proofs.fan.in_order.Goals as goal
-
-pub returns-clause-sorted : goal.returns-clause-sorted
-returns-clause-sorted g c = IsNonDecreasingBy-from_sort_by_key (λ gave. gave.place) _ c.in_ok-sort_by_key.ensures.sorted
-    (λ a r q k. search rules)

@@ -1,0 +1,2 @@
+-- What the private functions promise one another. No public clause cites it.
+pub mod Slots
