@@ -87,7 +87,7 @@ impl Search {
             return Ok(());
         }
         self.next_greedy = self.next_greedy.saturating_mul(4).max(1);
-        let places = greedy_places(self.alloc, &self.shape, problem.cells(), sight)?;
+        let places = greedy_places(self.alloc, &self.shape, sight)?;
         self.offer(problem, &places)
     }
 

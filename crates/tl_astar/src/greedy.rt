@@ -1,11 +1,10 @@
 //! Widths for a low placement: those that the bound of a zone wants, made narrower where that costs least.
 
 use crate::columns::{column_places, is_on_page, longest_path};
-use crate::rises::raise_heights;
+use crate::rises::{Rise, first_above, raise_heights, room_past};
 use crate::shape::{Shape, class_of, number_at, raise};
-use crate::sight::{Sight, rooms_for, row_places};
+use crate::sight::{Sight, lines_of_strips};
 use std::alloc::{AllocError, Global};
-use tl_problem::Cell;
 
 /// A narrower room for a span.
 #[derive(Clone, Copy)]
@@ -38,32 +37,56 @@ const NO_OFFER: Offer = Offer {
 pub(crate) fn greedy_places(
     alloc: Global,
     shape: &Shape,
-    cells: &[Cell],
     sight: &Sight,
 ) -> Result<Vec<u32>, AllocError> {
     let mut rooms = Vec::from_slice(alloc, &sight.wanted)?;
     let mut heights = Vec::from_slice(alloc, &sight.heights)?;
+    let mut lines = lines_of_strips(alloc, shape, &heights)?;
     let mut places = column_places(alloc, shape, &rooms)?;
     let mut offers = vec![in alloc; NO_OFFER; shape.spans.len()]?;
+    let mut met = vec![in alloc; 0; shape.spans.len()]?;
     for _ in 0..step_count(shape) {
         if is_on_page(shape, &places) {
             return Ok(places);
         }
         let path = longest_path(alloc, shape, &rooms, &places)?;
-        let ends = row_places(alloc, shape, &heights)?;
         for &span in &path {
             let room = number_at(&rooms, span);
-            let least = number_at(&sight.least, span);
-            renew(alloc, shape, cells, (span, least, room), &ends, &mut offers)?;
+            let first = met.get(span).copied().unwrap_or(0);
+            renew(
+                alloc,
+                shape,
+                sight,
+                (span, room, first),
+                &lines,
+                &mut offers,
+            )?;
         }
         let Some(step) = cheapest(&path, &offers) else {
             return Ok(places);
         };
         raise_heights(sight.rises.of_span(step.span), step.room, &mut heights);
-        rooms = rooms_for(alloc, shape, &sight.rises, &sight.least, &heights)?;
+        lines = lines_of_strips(alloc, shape, &heights)?;
+        take_wanted(shape, sight, &lines, &mut met, &mut rooms);
         places = column_places(alloc, shape, &rooms)?;
     }
     Ok(places)
+}
+
+/// Gives each span the room that it wants where the strips have so many lines. The first `met` rises of a span,
+/// which are the widest, were not above the lines before. Rows only become higher, so they still are not, but
+/// where a tall strip had stretched a row, that may lose its lines to another one.
+fn take_wanted(shape: &Shape, sight: &Sight, lines: &[u32], met: &mut [usize], rooms: &mut [u32]) {
+    for span in 0..rooms.len().min(met.len()) {
+        let rises = sight.rises.of_span(span);
+        let first = if shape.has_tall_strips() {
+            0
+        } else {
+            met[span]
+        };
+        met[span] = first_above(rises, first, lines);
+        rooms[span] = number_at(&sight.least, span).max(room_past(rises, met[span]));
+    }
 }
 
 /// The number of all classes, which is more than steps can be taken.
@@ -76,19 +99,19 @@ fn step_count(shape: &Shape) -> usize {
 }
 
 /// Finds the cheapest step of a span anew, where its room is another than when it was found. The span is
-/// given with its least room and its room.
+/// given with its room, and with the number of the first of its rises that may be above the lines.
 fn renew(
     alloc: Global,
     shape: &Shape,
-    cells: &[Cell],
-    asked: (usize, u32, u32),
-    ends: &[u32],
+    sight: &Sight,
+    asked: (usize, u32, usize),
+    lines: &[u32],
     offers: &mut [Offer],
 ) -> Result<(), AllocError> {
-    let (span, _, room) = asked;
+    let (span, room, _) = asked;
     if let Some(offer) = offers.get_mut(span) {
         if offer.room != room {
-            let step = step_of(alloc, shape, cells, asked, ends)?;
+            let step = step_of(alloc, shape, sight, asked, lines)?;
             *offer = Offer { room, step };
         }
     }
@@ -110,17 +133,19 @@ fn cheapest(path: &[usize], offers: &[Offer]) -> Option<Step> {
     best
 }
 
-/// The step of the span from this room with the least growth for each column won, where rows end there.
+/// The step of the span from this room with the least growth for each column won, where strips have so many
+/// lines.
 fn step_of(
     alloc: Global,
     shape: &Shape,
-    cells: &[Cell],
-    asked: (usize, u32, u32),
-    ends: &[u32],
+    sight: &Sight,
+    asked: (usize, u32, usize),
+    lines: &[u32],
 ) -> Result<Option<Step>, AllocError> {
-    let (span, least, room) = asked;
+    let (span, room, first) = asked;
     let classes = shape.classes_of(span);
-    let growths = growths_of(alloc, shape, cells, span, ends)?;
+    let least = number_at(&sight.least, span);
+    let growths = growths_of(alloc, classes, sight.rises.of_span(span), first, lines)?;
     let mut best: Option<Step> = None;
     for class in class_of(classes, least)..class_of(classes, room) {
         let narrow = number_at(classes, class).max(least);
@@ -148,41 +173,39 @@ fn is_cheaper(step: &Step, best: &Option<Step>) -> bool {
     }
 }
 
-/// For each class of the span, how many lines its cells need at the class's first width past what their rows
-/// have at these places.
+/// For each class of a span, how many lines past these its strips need at the class's first width. Its rises
+/// tell that without a look at the cells. Those before number `first` are not above the lines.
 fn growths_of(
     alloc: Global,
-    shape: &Shape,
-    cells: &[Cell],
-    span: usize,
-    places: &[u32],
+    classes: &[u32],
+    rises: &[Rise],
+    first: usize,
+    lines: &[u32],
 ) -> Result<Vec<u32>, AllocError> {
-    let classes = shape.classes_of(span);
+    let mut needed = Vec::from_slice(alloc, lines)?;
     let mut growths = vec![in alloc; 0; classes.len()]?;
-    for &number in shape.cells_of(span) {
-        if let Some(cell) = cells.get(number) {
-            let top = number_at(places, cell.top as usize);
-            let bottom = number_at(places, cell.bottom as usize);
-            let gap = shape.style.row_gap();
-            add_growths(
-                cell,
-                classes,
-                bottom.saturating_sub(top).saturating_sub(gap),
-                &mut growths,
-            );
-        }
+    let (mut begun, mut growth) = (first, 0u32);
+    for class in (0..classes.len()).rev() {
+        let (next, grown) = grow(rises, begun, classes[class], &mut needed);
+        begun = next;
+        growth = growth.saturating_add(grown);
+        raise(&mut growths, class, growth);
     }
     Ok(growths)
 }
 
-/// Adds what the cell needs past the height at each class.
-fn add_growths(cell: &Cell, classes: &[u32], height: u32, growths: &mut [u32]) {
-    for class in 0..classes.len() {
-        let needed = cell.low.height_at(classes[class]).unwrap_or(0);
-        if needed <= height {
-            return;
+/// Makes the strips as high as the rises from number `begun` on need at this room. Returns the number of the
+/// first rise whose width the room has, and how many lines the strips have grown.
+fn grow(rises: &[Rise], begun: usize, room: u32, needed: &mut [u32]) -> (usize, u32) {
+    let mut grown = 0u32;
+    for number in begun..rises.len() {
+        let rise = rises[number];
+        if rise.width <= room {
+            return (number, grown);
         }
-        let growth = number_at(growths, class).saturating_add(needed - height);
-        raise(growths, class, growth);
+        let before = number_at(needed, rise.strip);
+        grown = grown.saturating_add(rise.height.saturating_sub(before));
+        raise(needed, rise.strip, rise.height);
     }
+    (rises.len(), grown)
 }

@@ -120,14 +120,22 @@ pub(crate) fn raise_heights(rises: &[Rise], room: u32, heights: &mut [u32])
     }
 }
 
-/// The least room at which none of the rises of a span is above these lines of the strips, 0 where none is at any.
-pub(crate) fn room_for(rises: &[Rise], lines: &[u32]) -> u32 {
-    for rise in rises {
-        if rise.height > number_at(lines, rise.strip) {
-            return rise.width;
+/// The number of the first of the rises of a span, from `first` on, that is above these lines of the strips.
+pub(crate) fn first_above(rises: &[Rise], first: usize, lines: &[u32]) -> usize {
+    for number in first..rises.len() {
+        if rises[number].height > number_at(lines, rises[number].strip) {
+            return number;
         }
     }
-    0
+    rises.len()
+}
+
+/// The least room at which none of the rises of a span from this number on counts, 0 where there are none.
+pub(crate) fn room_past(rises: &[Rise], number: usize) -> u32 {
+    match rises.get(number) {
+        Some(rise) => rise.width,
+        None => 0,
+    }
 }
 
 /// Adds the rises of a span from the least up to the greatest room that are above these heights.

@@ -1,6 +1,6 @@
 //! What is seen of a zone: the rooms of its spans, the heights of its rows, and what rooms its bound wants.
 
-use crate::rises::{Rises, room_for};
+use crate::rises::{Rises, first_above, room_past};
 use crate::shape::{Shape, class_of, number_at, raise};
 use crate::spread::{Spread, greatest_rooms, least_rooms, zone_spread};
 use crate::whole::Whole;
@@ -74,11 +74,7 @@ fn heights_at(alloc: Global, whole: &Whole, most: &[u32]) -> Result<Vec<u32>, Al
 }
 
 /// The places where rows begin, each with a gap before the next, and where the last one ends.
-pub(crate) fn row_places(
-    alloc: Global,
-    shape: &Shape,
-    heights: &[u32],
-) -> Result<Vec<u32>, AllocError> {
+fn row_places(alloc: Global, shape: &Shape, heights: &[u32]) -> Result<Vec<u32>, AllocError> {
     let gap = shape.style.row_gap();
     let mut places = vec![in alloc; 0; (shape.rows as usize).saturating_add(1)]?;
     for (number, strip) in shape.strips.iter().enumerate() {
@@ -123,7 +119,7 @@ fn rows_end(alloc: Global, shape: &Shape, heights: &[u32]) -> Result<u32, AllocE
 
 /// For each span the least room, from `least` on, at which no cell of it is higher than its rows, where the
 /// strips have these heights. None of them is below those from which the rises were found.
-pub(crate) fn rooms_for(
+fn rooms_for(
     alloc: Global,
     shape: &Shape,
     rises: &Rises,
@@ -133,13 +129,19 @@ pub(crate) fn rooms_for(
     let lines = lines_of_strips(alloc, shape, heights)?;
     let mut rooms = Vec::from_slice(alloc, least)?;
     for span in 0..shape.spans.len() {
-        raise(&mut rooms, span, room_for(rises.of_span(span), &lines));
+        let of_span = rises.of_span(span);
+        let above = first_above(of_span, 0, &lines);
+        raise(&mut rooms, span, room_past(of_span, above));
     }
     Ok(rooms)
 }
 
 /// How many lines the rows of each strip have, with the gaps between them, where strips have these heights.
-fn lines_of_strips(alloc: Global, shape: &Shape, heights: &[u32]) -> Result<Vec<u32>, AllocError> {
+pub(crate) fn lines_of_strips(
+    alloc: Global,
+    shape: &Shape,
+    heights: &[u32],
+) -> Result<Vec<u32>, AllocError> {
     if !shape.has_tall_strips() {
         return Vec::from_slice(alloc, heights);
     }
