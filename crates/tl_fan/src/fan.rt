@@ -1,4 +1,4 @@
-//! Pieces of work in groups. The threads of one group run at once, each takes the next piece that none has
+//! Pieces of work in groups. The threads of one group run at once, each takes the last piece that none has
 //! taken, and the next group begins after their join.
 
 ghost use Rattle.std.specs.Prelude.{◌≡◌, ◌<◌, ◌≤◌, IfOk, Contains, length, slice_index_or, Ok};
@@ -51,12 +51,13 @@ fn done<G: Gate, X: Drop, F: Fn(u32) -> X>(gate: &G, number: u32, piece: &F) -> 
     piece(number)
 }
 
-/// What the pieces give that one thread does: each time the next one that no thread has taken, until none
-/// is left.
+/// What the pieces give that one thread does: each time the last one that no thread has taken, until none is
+/// left. What comes last may cost most, as what holds all others does, and is begun first so that no thread is
+/// left with it when all others have ended.
 fn taken<G: Gate, X: Drop, F: Fn(u32) -> X>(
     alloc: Global,
     gate: &G,
-    next: &AtomicUsize,
+    begun: &AtomicUsize,
     numbers: &[u32],
     piece: &F,
 ) -> Result<Vec<Placed<X>>, AllocError>
@@ -66,10 +67,11 @@ fn taken<G: Gate, X: Drop, F: Fn(u32) -> X>(
 {
     let mut found = Vec::new(alloc);
     for _ in 0..numbers.len() {
-        let place = next.fetch_add(1, Ordering::SeqCst);
-        if place >= numbers.len() {
+        let before = begun.fetch_add(1, Ordering::SeqCst);
+        if before >= numbers.len() {
             break;
         }
+        let place = numbers.len() - 1 - before;
         let one = done(gate, numbers[place], piece);
         found.push(Placed { place, one })?;
     }
@@ -89,12 +91,12 @@ fn at_once<R: Threads + Sync, G: Gate, X: Send + Drop, F: Fn(u32) -> X + Sync>(
     ensures { IfOk result (λ found. All (λ gave. (gave.place < length numbers.now)
         × F.post piece.now (slice_index_or numbers.now gave.place 0) gave.one) found.items) }
 {
-    let next = AtomicUsize::new(0);
+    let begun = AtomicUsize::new(0);
     let run = |_thread: usize| -> Result<Vec<Placed<X>>, AllocError>
         requires { All (λ number. F.pre piece.now number) numbers.now }
         ensures { IfOk result (λ found. All (λ gave. (gave.place < length numbers.entry.now)
             × F.post piece.entry.now (slice_index_or numbers.entry.now gave.place 0) gave.one) found.items) }
-    { taken(alloc, gate, &next, numbers, piece) };
+    { taken(alloc, gate, &begun, numbers, piece) };
     let runs = thread::map_indices(rt, alloc, threads, &run)?;
     let mut found = Vec::new(alloc);
     for run in runs {
@@ -176,7 +178,7 @@ fn group_at_once<R: Threads + Sync, G: Gate, X: Send + Drop, F: Fn(u32) -> X + S
 
 /// What the pieces of these numbers give, in their order. They run in groups: in each `workers` threads do
 /// as many pieces at once, where so many threads can be made, and the next group begins when all of them
-/// have ended. Where there are many pieces, each thread does several, one after the other: it takes the next
+/// have ended. Where there are many pieces, each thread does several, one after the other: it takes the last
 /// one that none has taken, so that none waits for a slow one. Each piece passes the gate once, before it
 /// begins, by its number.
 pub fn fan_out<R: Threads + Sync, G: Gate, X: Send + Drop, F: Fn(u32) -> X + Sync>(

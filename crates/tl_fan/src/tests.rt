@@ -176,10 +176,10 @@ fn of_many_pieces_a_thread_does_several(rt: HostRuntime) -> Result<(), Fail> {
 
 #[test]
 fn a_thread_goes_on_while_another_one_is_slow(rt: HostRuntime) -> Result<(), Fail> {
-    // The first piece waits for all others of its group, of 102 pieces.
+    // The last piece of the first group, which has 102, waits for all others of it.
     let ended = AtomicU32::new(0);
     let piece = |number: u32| -> bool {
-        if number > 0 {
+        if number != 101 {
             ended.fetch_add(1, Ordering::SeqCst);
             return true;
         }

@@ -9,4 +9,4 @@ loop-preserved g c =
     × g.F.Fn.post c.args.piece.now (get_or c.args.numbers.now gave.place 0, tt) gave.one)) (sym c.in_ok-push.ensures.items)
     (All-push (λ gave. (gave.place < length c.args.numbers.now)
     × g.F.Fn.post c.args.piece.now (get_or c.args.numbers.now gave.place 0, tt) gave.one) c.loop.found.items _ c.loop.invariant
-    (omega (arith, c.if-place-numbers.false), c.done-one.ensures))
+    (omega (arith, c.if-before-numbers.false), c.done-one.ensures))
