@@ -1,5 +1,6 @@
 -- Slots that are filled and emptied.
-use Rattle.std.proofs.Common.{◌≡◌, ◌≢◌, ◌⊎◌, inl, inr, ◌∙◌, ℕ, ◌<◌, refl, List, [], ◌∷◌, ◌++◌, get_or, set, Option, Some, None, sym, subst, arith}
+use Rattle.std.proofs.Common.{◌≡◌, ◌≢◌, ◌⊎◌, inl, inr, ◌∙◌, ℕ, ◌<◌, refl, List, [], ◌∷◌, ◌++◌, get_or, set, Option, Some, None, sym}
+use Rattle.std.proofs.Common.{subst, arith}
 use Rattle.std.specs.List.{Contains}
 use Rattle.std.specs.Prelude.{IfSome}
 use Rattle.std.proofs.lemmas.Bool.{cases_eq}
@@ -43,11 +44,3 @@ found_slot count found slots gave old =
 pub emptied_slot : {X : Type 0} (B : ℕ → X → Type 0) (count : ℕ) (slots : List (Option X)) (at : ℕ) → AreSlots count B slots →
     AreSlots count B (set slots at None)
 emptied_slot B count slots at old = set_slot B B count slots at None (λ place one is. is) old tt
-
--- what belongs to a place is what is asked there
-pub weaker_slots : {X : Type 0} (B C : ℕ → X → Type 0) (count : ℕ) (slots : List (Option X)) →
-    ((place : ℕ) (one : X) → B place one → C place one) → AreSlots count B slots → AreSlots count C slots
-weaker_slots B C count slots more old = record {
-  so_many = old.so_many;
-  each = λ place d within. IfSome-weaker (get_or slots place d) (B place) (C place) (more place) (old.each place d within);
-}

@@ -123,7 +123,8 @@ fn by_place<X: Drop>(
     found: Vec<Placed<X>>,
 ) -> Result<Vec<Option<X>>, AllocError>
     requires { All (λ gave. gave.place < count) found.items }
-    ensures { IfOk result (λ slots. AreSlots count (λ place one. Contains found.items (record { place = place; one = one })) slots.items) }
+    ensures { IfOk result (λ slots.
+        AreSlots count (λ place one. Contains found.items (record { place = place; one = one })) slots.items) }
 {
     let mut slots = no_results(alloc, count)?;
     for Placed { place, one } in found {
@@ -142,7 +143,8 @@ fn completed<G: Gate, X: Drop, F: Fn(u32) -> X>(
     piece: &F,
 ) -> Result<Vec<X>, AllocError>
     requires pieces { All (λ number. F.pre piece.now number) numbers.now }
-    requires slots { AreSlots (length numbers.now) (λ place one. F.post piece.now (slice_index_or numbers.now place 0) one) slots.items }
+    requires slots { AreSlots (length numbers.now)
+        (λ place one. F.post piece.now (slice_index_or numbers.now place 0) one) slots.items }
     ensures { IfOk result (λ found. AllZip (λ number one. F.post piece.now number one) numbers.now found.items) }
 {
     let mut slots = slots;

@@ -9,6 +9,7 @@ use Rattle.tl_base.specs.Sizes.{total}
 use Rattle.tl_cert.specs.declared.section.Section.{Section}
 use Rattle.tl_table.specs.declared.cell.Table.{Table, out-Table}
 use Rattle.tl_table.specs.Least.{IsLeastWidth}
+use Rattle.tl_table.specs.Numbered.{HasNumber}
 use Rattle.tl_table.specs.Tables.{IsAmong}
 use Rattle.tl_table.specs.Sound.{nested_in_table}
 
@@ -42,9 +43,8 @@ pub record IsDocumentOf (table : Table) (style : Style) (page : ℕ) (document :
       IsLeastWidth one document.style (least_of document (out-Table one).number)
 
 -- the table of the document with this number
-pub record IsTableOf (document : Document) (number : ℕ) (one : Table) : Type 0 where
-  pub among : IsAmong document.table one
-  pub numbered : (out-Table one).number ≡ number
+abbrev pub IsTableOf : Document → ℕ → Table → Type 0
+IsTableOf document = HasNumber document.table
 
 -- ---- what is due
 

@@ -1,13 +1,12 @@
 -- What a subject stands for: the document of a table on a page.
-use Rattle.std.specs.Prelude.{◌≡◌, ℕ, ◌+◌, ◌<◌, ◌≤◌, length, get_or}
-use denote.Ref.{Bor}
+use Rattle.std.specs.Prelude.{◌≤◌}
 use Rattle.tl_base.specs.declared.limits.TheConstants.{MAX_PAGE_WIDTH}
 use Rattle.tl_form.specs.declared.subject.Due.{Due}
 use Rattle.tl_form.specs.declared.subject.Subject.{Subject}
-use Rattle.tl_form.specs.Expected.{Document, IsDocumentOf, IsTableOf, own_number}
+use Rattle.tl_form.specs.Expected.{Document, IsDocumentOf}
 use Rattle.tl_form.specs.Expected as expected
-use Rattle.tl_table.specs.declared.cell.Table.{Table}
-use Rattle.tl_table.specs.Sound.{IsSound, nested_in_table}
+use Rattle.tl_table.specs.Numbered.{AreByNumber}
+use Rattle.tl_table.specs.Sound.{IsSound}
 
 -- the document that the subject is
 abbrev pub meant : Subject → Document
@@ -23,15 +22,9 @@ meant subject = record {
 abbrev pub due_of : Due → expected.Due
 due_of due = record { table = due.table; width = due.width }
 
--- the tables of the subject stand by their numbers, from that of its own table on
-pub record AreByNumber (subject : Subject) : Type 0 where
-  pub count : length subject.tables.items ≡ nested_in_table subject.table.now + 1
-  pub each : (i : ℕ) (d : Bor Table) → i < length subject.tables.items →
-      IsTableOf (meant subject) (own_number (meant subject) + i) (get_or subject.tables.items i d).now
-
 -- a subject of a sound table on a page
 pub record IsSubject (subject : Subject) : Type 0 where
   pub sound : IsSound subject.table.now
   pub narrow : subject.page ≤ MAX_PAGE_WIDTH
   pub document : IsDocumentOf subject.table.now subject.style subject.page (meant subject)
-  pub tables : AreByNumber subject
+  pub tables : AreByNumber subject.table.now subject.tables.items

@@ -34,11 +34,10 @@ pub use problem_laws::{
 pub use problems::{has_sound_problem, problem, sound_problem};
 pub use subject::{Due, Subject};
 pub use tl_table::{
-    Content, FormError, Kind, Layout, Table, TableCell, each_number_is_of_one_table,
+    Content, FormError, Kind, Layout, Table, TableCell, by_number, each_number_is_of_one_table,
     file_spells_one_table, formed_has_few_cells, least_width, narrow_chain, nested,
     no_page_is_narrower_than_a_chain, own_width, same_tables_nest_as_many,
     same_tables_share_least_widths, table, the_first_without_a_grid_has_the_least_number,
-    with_number,
 };
 pub use valid_laws::{
     bounded_is_between, lowest_is_least, named_layout_fits, narrow_is_too_wide,

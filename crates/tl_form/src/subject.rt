@@ -1,18 +1,18 @@
 //! A document: a table on a page, and which of its sections is due when.
 
 ghost use Rattle.std.specs.Prelude.{◌≡◌, ◌+◌, ◌<◌, ◌≤◌, IfOk, length, option_map};
-ghost use Rattle.std.specs.List.{All};
+ghost use Rattle.std.specs.List.{All, AllZip};
 ghost use Rattle.tl_base.specs.declared.limits.TheConstants.{MAX_HEIGHT};
 ghost use Rattle.tl_table.specs.declared.cell.Table.{Table, out-Table};
 ghost use Rattle.tl_form.specs.Expected.{IsDocumentOf, IsTableOf, first_due, next_due, own_number};
 ghost use Rattle.tl_table.specs.Least.{IsLeastWidth};
-ghost use Rattle.tl_table.specs.Numbered.{HasNumber};
+ghost use Rattle.tl_table.specs.Numbered.{AreByNumber};
 ghost use Rattle.tl_table.specs.Sound.{IsSound, nested_in_table};
-ghost use Rattle.tl_form.specs.Subjects.{AreByNumber, due_of, meant};
+ghost use Rattle.tl_form.specs.Subjects.{due_of, meant};
 
 use std::alloc::{AllocError, Global};
 use tl_base::Style;
-use tl_table::{Table, least_width, nested, with_number};
+use tl_table::{Table, by_number, least_width, nested};
 
 /// A table on a page in a style, with the least width of it and of each table nested in it.
 #[derive(Drop)]
@@ -25,8 +25,7 @@ pub struct Subject<'a> {
     pub last: u32,
     /// The least widths of the tables, by their numbers from that of the table itself on.
     pub least: Vec<u32>,
-    /// The tables, by their numbers from that of the table itself on. To look one up by its number in the
-    /// table itself takes a walk over all that stands before it.
+    /// The tables, by their numbers from that of the table itself on.
     pub tables: Vec<&'a Table>,
 }
 
@@ -37,23 +36,18 @@ pub struct Due {
     pub width: u32,
 }
 
-/// The table with this number, and its least width.
-fn least_of<'a>(
-    alloc: Global,
-    table: &'a Table,
-    style: Style,
-    number: u32,
-) -> Result<(&'a Table, u32), AllocError>
-    requires sound { IsSound table.now }
-    requires from { (out-Table table.now).number ≤ number }
-    requires upto { number ≤ (out-Table table.now).number + nested_in_table table.now }
-    ensures one { IfOk result (λ found. HasNumber table.now number found.0.now) }
-    ensures least { IfOk result (λ found. IsLeastWidth found.0.now style found.1) }
-    ensures small { IfOk result (λ found. found.1 ≤ MAX_HEIGHT) }
+/// The least widths of the tables, in columns of text, in their order.
+fn least_widths(alloc: Global, tables: &[&Table], style: Style) -> Result<Vec<u32>, AllocError>
+    requires { All (λ one. IsSound one.now) tables.now }
+    ensures each { IfOk result (λ least. AllZip (λ one width. IsLeastWidth one.now style width) tables.now least.items) }
+    ensures small { IfOk result (λ least. All (λ width. width ≤ MAX_HEIGHT) least.items) }
 {
-    let one = with_number(table, number).unwrap();
-    let least = least_width(alloc, one, style)?;
-    Ok((one, least))
+    let mut least = Vec::new(alloc);
+    for one in tables {
+        let width = least_width(alloc, one, style)?;
+        least.push(width)?;
+    }
+    Ok(least)
 }
 
 impl<'a> Subject<'a> {
@@ -67,21 +61,15 @@ impl<'a> Subject<'a> {
         requires sound { IsSound table.now }
         ensures is { IfOk result (λ subject. IsDocumentOf table.now style page (meant subject)) }
         ensures small { IfOk result (λ subject. All (λ least. least ≤ MAX_HEIGHT) subject.least.items) }
-        ensures tables { IfOk result AreByNumber }
+        ensures tables { IfOk result (λ subject. AreByNumber subject.table.now subject.tables.items) }
     {
-        let count = nested(table) + 1;
-        let mut least = Vec::new(alloc);
-        let mut tables = Vec::new(alloc);
-        for k in 0..count {
-            let (one, width) = least_of(alloc, table, style, table.number + k)?;
-            least.push(width)?;
-            tables.push(one)?;
-        }
+        let tables = by_number(alloc, table)?;
+        let least = least_widths(alloc, tables.as_slice(), style)?;
         Ok(Subject {
             table,
             style,
             page,
-            last: table.number + count - 1,
+            last: table.number + nested(table),
             least,
             tables,
         })
@@ -89,7 +77,7 @@ impl<'a> Subject<'a> {
 
     /// The table with this number.
     pub fn table_of(&self, number: u32) -> &'a Table
-        requires tables { AreByNumber self.now }
+        requires tables { AreByNumber self.now.table.now self.now.tables.items }
         requires from { own_number (meant self.now) ≤ number }
         requires upto { number ≤ own_number (meant self.now) + nested_in_table self.now.table.now }
         ensures { IsTableOf (meant self.now) number result.now }

@@ -10,7 +10,8 @@ use std::test::Fail;
 use tl_base::{Breaking, Chain, Entry, List, MAX_FILE_BYTES, Style};
 use tl_grid::GridError;
 use tl_table::{
-    Content, FormError, Kind, Layout, Table, TableCell, least_width, narrow_chain, nested, table,
+    Content, FormError, Kind, Layout, Table, TableCell, by_number, least_width, narrow_chain,
+    nested, table,
 };
 use tl_text::{Atom, Para};
 use tl_token::tokens;
@@ -202,6 +203,18 @@ fn nested_of(alloc: Global, file: &str) -> Result<Option<u32>, AllocError> {
         Ok(formed) => Ok(Some(nested(&formed))),
         Err(_) => Ok(None),
     }
+}
+
+/// The tables of a file by their numbers, each with its columns and rows: ` T0 1x1 T1 0x0`.
+fn numbered(alloc: Global, file: &str) -> Result<String, AllocError> {
+    let mut line = String::new(alloc);
+    if let Ok(formed) = table_of(alloc, file, Breaking::Words)? {
+        for one in by_number(alloc, &formed)?.as_slice() {
+            let (number, cols, rows) = (one.number, one.cols, one.rows);
+            line.push_str(format!(in alloc; " T{number} {cols}x{rows}")?.as_str())?;
+        }
+    }
+    Ok(line)
 }
 
 /// So many copies of the text.
@@ -433,6 +446,17 @@ fn two_hundred_tables_are_counted(rt: HostRuntime) -> Result<(), Fail> {
     let inner = repeated(alloc, "<table></table>", 199)?;
     let file = format!(in alloc; "<table><tr><td>{inner}</table>")?;
     nests(&rt, alloc, file.as_str(), 199)
+}
+
+#[test]
+fn tables_stand_by_their_numbers_though_a_footer_is_moved(rt: HostRuntime) -> Result<(), Fail> {
+    let footer = "<tfoot><tr><td><table></table>";
+    let body = "<tbody><tr><td><table><tr><td><table></table></table><td>x";
+    let alloc = rt.alloc();
+    let file = format!(in alloc; "<table>{footer}{body}</table>")?;
+    let found = numbered(alloc, file.as_str())?;
+    assert_eq!(rt; found.as_str(), " T0 2x2 T1 0x0 T2 1x1 T3 0x0");
+    Ok(())
 }
 
 /// A nested table as large as it may be: a beginning, and a part so many times.

@@ -11,10 +11,11 @@ use Rattle.tl_form.specs.ClosedLaws.{IsWideDocument}
 use Rattle.tl_form.specs.DueProblems.{GivesSoundProblem, SectionsGiveSoundProblems}
 use Rattle.tl_form.specs.Expected.{Due, IsDocumentOf, IsTableOf, own_number, least_of, due_after}
 use Rattle.tl_table.specs.Least.{IsLeastWidth}
+use Rattle.tl_table.specs.Numbered.{AreByNumber}
 use Rattle.tl_form.specs.Nested.{AreInnerSteps, IsProblemFor}
 use Rattle.tl_form.specs.Problems.{IsProblemOf}
 use Rattle.tl_table.specs.Sound.{IsSound}
-use Rattle.tl_form.specs.Subjects.{AreByNumber, IsSubject, meant}
+use Rattle.tl_form.specs.Subjects.{IsSubject, meant}
 use Rattle.tl_form.specs.Valid.{AreGoodBelow, IsProblemAt}
 use Rattle.tl_form.proofs.DueLaws.{MayBeDue, may_be_due}
 use Rattle.tl_table.proofs.LinkLemmas.{IsLeastWidth-unique}
@@ -39,7 +40,7 @@ wide_page subject is fits = record {
 
 -- a subject that was made of a table
 pub subject_of : (table : Table) (style : Style) (page : ℕ) (subject : Subject) → IsSound table → page ≤ MAX_PAGE_WIDTH →
-    IsDocumentOf table style page (meant subject) → AreByNumber subject → IsSubject subject
+    IsDocumentOf table style page (meant subject) → AreByNumber subject.table.now subject.tables.items → IsSubject subject
 subject_of table style page subject sound narrow of tables = record {
   sound = subst IsSound (sym of.same) sound;
   narrow = omega (arith, of.wide, narrow);

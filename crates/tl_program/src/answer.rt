@@ -5,10 +5,11 @@ ghost use Rattle.tl_base.specs.declared.limits.TheConstants.{MAX_PAGE_WIDTH, MAX
 ghost use Rattle.tl_cert.specs.Text.{IsWritable};
 ghost use Rattle.tl_table.specs.Layouts.{Fits};
 ghost use Rattle.tl_table.specs.Least.{IsLeastWidth};
+ghost use Rattle.tl_table.specs.Numbered.{AreByNumber};
 ghost use Rattle.tl_form.specs.Expected.{IsDocumentOf};
 ghost use Rattle.tl_form.specs.Named.{IsLastPlacement};
 ghost use Rattle.tl_table.specs.Sound.{IsSound};
-ghost use Rattle.tl_form.specs.Subjects.{AreByNumber, meant};
+ghost use Rattle.tl_form.specs.Subjects.{meant};
 ghost use Rattle.tl_program.specs.Answers.{IsPageFile, certificate_file, IsReadBack};
 ghost use Rattle.tl_program.specs.Answers.{IsLaidAs};
 ghost use Rattle.tl_program.specs.inner.Claims.{report_of};
@@ -99,7 +100,7 @@ fn lowest<R: Threads + Sync, G: Gate>(
 ) -> Result<Answer, AllocError>
     requires usable { IsUsableTable task.now subject.now.table.now budget }
     requires subject { IsDocumentOf subject.now.table.now task.now.style task.now.width (meant subject.now) }
-    requires tables { AreByNumber subject.now }
+    requires tables { AreByNumber subject.now.table.now subject.now.tables.items }
     requires wide { (least : ℕ) → IsLeastWidth subject.now.table.now task.now.style least → least ≤ task.now.width }
     ensures { IfOk result (λ answer. IsLaidAs task.now subject.now.table.now answer answer.report) }
 {
@@ -130,7 +131,7 @@ pub fn found<R: Threads + Sync, G: Gate>(
 ) -> Result<FoundPage, AllocError>
     requires usable { IsUsableTable task.now subject.now.table.now budget }
     requires subject { IsDocumentOf subject.now.table.now task.now.style task.now.width (meant subject.now) }
-    requires tables { AreByNumber subject.now }
+    requires tables { AreByNumber subject.now.table.now subject.now.tables.items }
     requires wide { (least : ℕ) → IsLeastWidth subject.now.table.now task.now.style least → least ≤ task.now.width }
     ensures found { IfOk result (λ page. IsFound task.now subject.now.table.now budget page.certificate) }
     ensures placed { IfOk result (λ page. IsLastPlacement subject.now.table.now task.now.style task.now.width

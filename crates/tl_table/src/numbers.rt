@@ -1,54 +1,58 @@
 //! The tables of a document by their numbers.
 
-ghost use Rattle.std.specs.Prelude.{MatchOption};
+ghost use Rattle.std.specs.Prelude.{[], ◌∷◌, IfOk, length};
 ghost use Rattle.tl_table.specs.declared.cell.Content.{out-Content};
 ghost use Rattle.tl_table.specs.declared.cell.TableCell.{out-TableCell};
-ghost use Rattle.tl_table.specs.Numbered.{HasNumber, LacksNumber};
+ghost use Rattle.tl_table.specs.Numbered.{AreByNumber};
+ghost use Rattle.tl_table.specs.Sound.{IsSound};
 ghost use Rattle.tl_table.specs.Tables.{tables_of, tables_in};
-ghost use Rattle.tl_table.specs.inner.Numbers.{HasNumberIn, LackNumber};
+ghost use Rattle.tl_table.specs.inner.Numbers.{ArePut, HavePlaces};
 
 use crate::cell::{Content, Table, TableCell};
+use crate::count::nested;
+use std::alloc::{AllocError, Global};
 
-/// The table with this number: the table itself, or one nested in it at any depth. `None` exactly where
-/// none of them has the number.
-#[cycle(numbers)]
-pub fn with_number(table: &Table, number: u32) -> Option<&Table>
-    ensures { MatchOption result (LacksNumber table.now number) (λ one. HasNumber table.now number one.now) }
+/// The table and those nested in it at any depth, by their numbers from that of the table itself on.
+pub fn by_number<'a>(alloc: Global, table: &'a Table) -> Result<Vec<&'a Table>, AllocError>
+    requires { IsSound table.now }
+    ensures { IfOk result (λ tables. AreByNumber table.now tables.items) }
 {
-    if table.number == number {
-        return Some(table);
-    }
-    for cell in table.cells.as_slice() {
-        if let Some(found) = number_in_cell(cell, number) {
-            return Some(found);
-        }
-    }
-    None
+    let mut tables = vec![in alloc; table; nested(table) as usize + 1]?;
+    put_table(tables.as_mut_slice(), table.number, table);
+    Ok(tables)
 }
 
-/// The table with this number among those in the cell. `None` exactly where none has it.
+/// Puts the tables nested in the table and then itself into their places. The first place is for the number `first`.
 #[cycle(numbers)]
-fn number_in_cell(cell: &TableCell, number: u32) -> Option<&Table>
-    ensures { MatchOption result (LackNumber (tables_in (out-TableCell cell.now)) number)
-        (λ one. HasNumberIn (tables_in (out-TableCell cell.now)) number one.now) }
+fn put_table<'a>(places: &mut [&'a Table], first: u32, table: &'a Table)
+    requires { HavePlaces first (length places.old) (table.now ∷ []) }
+    ensures { ArePut first (table.now ∷ []) places.old places.new }
+{
+    for cell in table.cells.as_slice() {
+        put_cell(places, first, cell);
+    }
+    places[(table.number - first) as usize] = table;
+}
+
+/// Puts the tables in the cell into their places.
+#[cycle(numbers)]
+fn put_cell<'a>(places: &mut [&'a Table], first: u32, cell: &'a TableCell)
+    requires { HavePlaces first (length places.old) (tables_in (out-TableCell cell.now)) }
+    ensures { ArePut first (tables_in (out-TableCell cell.now)) places.old places.new }
 {
     for block in cell.blocks.as_slice() {
-        if let Some(found) = number_in_block(block, number) {
-            return Some(found);
-        }
+        put_block(places, first, block);
     }
-    None
 }
 
-/// The table with this number among the one that the block is and those inside it. `None` exactly where
-/// none has it.
+/// Puts the table that the block is and those inside it into their places. A paragraph has none.
 #[cycle(numbers)]
-fn number_in_block(block: &Content, number: u32) -> Option<&Table>
-    ensures { MatchOption result (LackNumber (tables_of (out-Content block.now)) number)
-        (λ one. HasNumberIn (tables_of (out-Content block.now)) number one.now) }
+fn put_block<'a>(places: &mut [&'a Table], first: u32, block: &'a Content)
+    requires { HavePlaces first (length places.old) (tables_of (out-Content block.now)) }
+    ensures { ArePut first (tables_of (out-Content block.now)) places.old places.new }
 {
     match block {
-        Content::Para(_) => None,
-        Content::Table(table) => with_number(table, number),
+        Content::Para(_) => {}
+        Content::Table(table) => put_table(places, first, table),
     }
 }
