@@ -2,6 +2,7 @@
 //! taken, and the next group begins after their join.
 
 ghost use Rattle.std.specs.Prelude.{◌≡◌, ◌<◌, ◌≤◌, IfOk, Contains, length, slice_index_or, Ok};
+ghost use denote.Param.Send.{IsSync, IsSend};
 ghost use Rattle.std.specs.List.{All, AllZip, range_with_len};
 ghost use Rattle.tl_fan.specs.inner.Slots.{AreSlots};
 
@@ -78,12 +79,16 @@ fn taken<G: Gate, X: Drop, F: Fn(u32) -> X>(
     Ok(found)
 }
 
-/// What the pieces of these numbers give, with their places: so many threads take them, and run at once.
+/// What the pieces of these numbers give, with their places: so many threads take them, and run at once. This
+/// thread begins each of the others, one after the other. Two that are begun by two threads at one time may be
+/// given the same processor, and keep it for some 30 milliseconds while another has nothing to do.
+#[cycle(threads)]
 fn at_once<R: Threads + Sync, G: Gate, X: Send + Drop, F: Fn(u32) -> X + Sync>(
     rt: &R,
     alloc: Global,
     gate: &G,
     threads: usize,
+    begun: &AtomicUsize,
     numbers: &[u32],
     piece: &F,
 ) -> Result<Vec<Placed<X>>, AllocError>
@@ -91,17 +96,23 @@ fn at_once<R: Threads + Sync, G: Gate, X: Send + Drop, F: Fn(u32) -> X + Sync>(
     ensures { IfOk result (λ found. All (λ gave. (gave.place < length numbers.now)
         × F.post piece.now (slice_index_or numbers.now gave.place 0) gave.one) found.items) }
 {
-    let begun = AtomicUsize::new(0);
-    let run = |_thread: usize| -> Result<Vec<Placed<X>>, AllocError>
+    if threads <= 1 {
+        return taken(alloc, gate, begun, numbers, piece);
+    }
+    let others = threads - 1;
+    let next = || -> Result<Vec<Placed<X>>, AllocError>
         requires { All (λ number. F.pre piece.now number) numbers.now }
         ensures { IfOk result (λ found. All (λ gave. (gave.place < length numbers.entry.now)
             × F.post piece.entry.now (slice_index_or numbers.entry.now gave.place 0) gave.one) found.items) }
-    { taken(alloc, gate, &begun, numbers, piece) };
-    let runs = thread::map_indices(rt, alloc, threads, &run)?;
-    let mut found = Vec::new(alloc);
-    for run in runs {
-        found.append(&mut run?)?;
-    }
+    { taken(alloc, gate, begun, numbers, piece) };
+    let rest = || -> Result<Vec<Placed<X>>, AllocError>
+        requires { IsSync R.row × IsSync F.row × IsSend X.row × All (λ number. F.pre piece.now number) numbers.now }
+        ensures { IfOk result (λ found. All (λ gave. (gave.place < length numbers.entry.now)
+            × F.post piece.entry.now (slice_index_or numbers.entry.now gave.place 0) gave.one) found.items) }
+    { at_once(rt, alloc, gate, others, begun, numbers, piece) };
+    let (next, rest) = thread::join(rt, next, rest);
+    let mut found = next?;
+    found.append(&mut rest?)?;
     Ok(found)
 }
 
@@ -173,7 +184,8 @@ fn group_at_once<R: Threads + Sync, G: Gate, X: Send + Drop, F: Fn(u32) -> X + S
     ensures { IfOk result (λ found. AllZip (λ number one. F.post piece.now number one) numbers.now found.items) }
 {
     let threads = numbers.len().min(workers as usize);
-    let found = at_once(rt, alloc, gate, threads, numbers, piece)?;
+    let begun = AtomicUsize::new(0);
+    let found = at_once(rt, alloc, gate, threads, &begun, numbers, piece)?;
     let slots = by_place(alloc, numbers.len(), found)?;
     completed(alloc, gate, numbers, slots, piece)
 }
