@@ -21,6 +21,7 @@ use crate::report::{Report, report_of};
 use crate::task::Task;
 use crate::widths::total_width;
 use std::alloc::{AllocError, Global};
+use std::thread;
 use std::thread::Threads;
 use tl_base::{Gate, List, MAX_CERTIFICATE_BYTES};
 use tl_cert::{Certificate, write};
@@ -108,7 +109,7 @@ fn lowest<R: Threads + Sync, G: Gate>(
         certificate,
         placed,
     } = found(rt, alloc, task, subject, budget, gate)?;
-    laid(alloc, task, subject.table, budget, &certificate, placed)
+    laid(rt, alloc, task, subject.table, budget, &certificate, placed)
 }
 
 /// The certificate of a search, with the placement that was found for its last section.
@@ -147,7 +148,8 @@ pub fn found<R: Threads + Sync, G: Gate>(
 
 /// The page of the layout that the certificate of a search names, with the certificate. The placement of
 /// its last section is the one that the search found.
-pub fn laid(
+pub fn laid<R: Threads + Sync>(
+    rt: &R,
     alloc: Global,
     task: &Task,
     table: &Table,
@@ -168,11 +170,49 @@ pub fn laid(
     bounded_is_between();
     budget_closes();
     open_spends();
+    let (page, text) = files(rt, alloc, task, table, &layout, certificate)?;
     Ok(Answer {
         report: report_of(task.width, certificate.claim, width),
-        page: Some(page_file(alloc, task, table, &layout)?),
-        certificate: certificate_file(alloc, task.certified, certificate)?,
+        page: Some(page),
+        certificate: text,
     })
+}
+
+/// The page of the table in the layout, and the text of the certificate, where it is asked for. Two workers
+/// write them at one time.
+fn files<R: Threads + Sync>(
+    rt: &R,
+    alloc: Global,
+    task: &Task,
+    table: &Table,
+    layout: &Layout,
+    certificate: &Certificate,
+) -> Result<(List<u8>, Option<List<u8>>), AllocError>
+    requires sound { IsSound table.now }
+    requires fits { (width height : ℕ) × (width ≤ MAX_PAGE_WIDTH) × (height ≤ MAX_HEIGHT)
+        × Fits table.now task.now.style width height layout.now }
+    requires writable { IsWritable certificate.now }
+    ensures page { IfOk result (λ files. IsPageFile task.now.html task.now.style table.now layout.now files.0) }
+    ensures certificate { IfOk result (λ files. files.1 ≡ certificate_file task.now.certified certificate.now) }
+    ensures readable { IfOk result (λ _. IsReadBack task.now.certified certificate.now) }
+{
+    if task.workers == 1 || !task.certified {
+        let page = page_file(alloc, task, table, layout)?;
+        let text = certificate_file(alloc, task.certified, certificate)?;
+        return Ok((page, text));
+    }
+    let certified = || -> Result<Option<List<u8>>, AllocError>
+        requires { IsWritable certificate.now }
+        ensures { IfOk result (λ file. (file ≡ certificate_file task.entry.now.certified certificate.entry.now)
+            × IsReadBack task.entry.now.certified certificate.entry.now) }
+    { certificate_file(alloc, task.certified, certificate) };
+    let drawn = || -> Result<List<u8>, AllocError>
+        requires { IsSound table.now × ((width height : ℕ) × (width ≤ MAX_PAGE_WIDTH) × (height ≤ MAX_HEIGHT)
+            × Fits table.now task.now.style width height layout.now) }
+        ensures { IfOk result (IsPageFile task.entry.now.html task.entry.now.style table.entry.now layout.entry.now) }
+    { page_file(alloc, task, table, layout) };
+    let (text, page) = thread::join(rt, certified, drawn);
+    Ok((page?, text?))
 }
 
 /// The page of the table in the layout: in text, or as HTML.

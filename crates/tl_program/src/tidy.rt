@@ -136,11 +136,11 @@ fn tidied_on<R: Threads + Sync, G: Gate>(
             Ok(TidyAnswer::Trimmed(answer))
         }
         Claim::Bounded(_, _) => {
-            let answer = laid(alloc, task, table, budget, &certificate, placed)?;
+            let answer = laid(rt, alloc, task, table, budget, &certificate, placed)?;
             Ok(TidyAnswer::Early(answer))
         }
         Claim::Narrow(_) => {
-            let answer = laid(alloc, task, table, budget, &certificate, placed)?;
+            let answer = laid(rt, alloc, task, table, budget, &certificate, placed)?;
             Ok(TidyAnswer::Early(answer))
         }
     }

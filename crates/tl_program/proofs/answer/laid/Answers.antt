@@ -19,7 +19,7 @@ use Rattle.tl_program.proofs.Laying.{few_columns, answered}
 use Rattle.tl_program.proofs.answer.laid.Goals as goal
 
 pub layout_with-requires-clause-written : goal.layout_with-requires-clause-written
-layout_with-requires-clause-written c =
+layout_with-requires-clause-written g c =
     let task = c.args.task.now in
     subst IsWritable (sym c.requires.found.made)
     (writable (IsOutcomeOf task.search task.workers c.args.budget) c.args.table.now task.style task.width c.args.budget
@@ -28,7 +28,7 @@ layout_with-requires-clause-written c =
     c.requires.usable.range.some c.requires.usable.range.narrow c.requires.usable.cuts)
 
 pub layout_with-requires-clause-valid : goal.layout_with-requires-clause-valid
-layout_with-requires-clause-valid c =
+layout_with-requires-clause-valid g c =
     let task = c.args.task.now in
     subst (λ (made : Certificate). IsValid c.args.table.now task.style made.width made.budget made)
     (sym c.requires.found.made)
@@ -36,13 +36,13 @@ layout_with-requires-clause-valid c =
     c.requires.found.expected c.requires.found.writable c.requires.wide)
 
 pub layout_with-requires-clause-placed : goal.layout_with-requires-clause-placed
-layout_with-requires-clause-placed c =
+layout_with-requires-clause-placed g c =
     subst (λ (width : ℕ). IsLastPlacement c.args.table.now c.args.task.now.style width c.args.certificate.now.sections
     c.args.placed)
     (sym (ap (λ (made : Certificate). made.width) c.requires.found.made)) c.requires.placed
 
 pub total_width-width-requires : goal.total_width-width-requires
-total_width-width-requires c =
+total_width-width-requires g c =
     let is : c.args.certificate.now.claim ≡ claim_of c.requires.found.sections =
     ap (λ (made : Certificate). made.claim) c.requires.found.made in
     let task = c.args.task.now in
@@ -58,8 +58,8 @@ total_width-width-requires c =
     (few_columns c.args.table.now task.style task.width high.0 c.in_ok-layout.layout c.requires.usable.sound
     (fits high.0 high.2))
 
-pub page_file-requires-clause-fits : goal.page_file-requires-clause-fits
-page_file-requires-clause-fits c =
+pub files-requires-clause-fits : goal.files-requires-clause-fits
+files-requires-clause-fits g c κs within =
     let is : c.args.certificate.now.claim ≡ claim_of c.requires.found.sections =
     ap (λ (made : Certificate). made.claim) c.requires.found.made in
     let task = c.args.task.now in
@@ -73,8 +73,8 @@ page_file-requires-clause-fits c =
     c.requires.found.expected c.requires.found.writable c.requires.wide in
     (task.width, high.0, c.requires.usable.range.narrow, high.1, fits high.0 high.2)
 
-pub certificate_file-requires : goal.certificate_file-requires
-certificate_file-requires c =
+pub files-requires-clause-writable : goal.files-requires-clause-writable
+files-requires-clause-writable g c κs within =
     let task = c.args.task.now in
     subst IsWritable (sym c.requires.found.made)
     (writable (IsOutcomeOf task.search task.workers c.args.budget) c.args.table.now task.style task.width c.args.budget
@@ -83,7 +83,7 @@ certificate_file-requires c =
     c.requires.usable.range.some c.requires.usable.range.narrow c.requires.usable.cuts)
 
 pub returns-clause-laid : goal.returns-clause-laid
-returns-clause-laid c =
+returns-clause-laid g c =
     let is : c.args.certificate.now.claim ≡ claim_of c.requires.found.sections =
     ap (λ (made : Certificate). made.claim) c.requires.found.made in
     let task = c.args.task.now in
@@ -99,9 +99,9 @@ returns-clause-laid c =
     subst (IsLaidAs task table
     (record {
       report = c.report_of.result;
-      page = Some c.in_ok-page_file.field-0;
+      page = Some c.in_ok-page.page;
       certificate =
-          c.in_ok-certificate_file.field-0;
+          c.in_ok-page.text;
     }))
     (sym (c.report_of.ensures ∙ ap (λ (claim : Claim). report_of task.width claim c.total_width-width.result) is))
     (answered task table sections
@@ -109,17 +109,17 @@ returns-clause-laid c =
     c.requires.usable.of_task c.requires.found.expected)
     c.requires.found.writable c.requires.wide c.requires.usable.sound c.requires.usable.range.narrow
     (subst (λ (b : ℕ). b ≤ _) c.requires.usable.of_task c.requires.usable.cuts)
-    c.in_ok-layout.layout c.total_width-width.result c.in_ok-page_file.field-0
+    c.in_ok-layout.layout c.total_width-width.result c.in_ok-page.page
     (record {
       report = c.report_of.result;
-      page = Some c.in_ok-page_file.field-0;
+      page = Some c.in_ok-page.page;
       certificate =
-          c.in_ok-certificate_file.field-0;
+          c.in_ok-page.text;
     })
     (subst (λ (one : Certificate). IsNamed table task.style one c.in_ok-layout.layout) made c.in_ok-layout.ensures.named)
     fits
     (c.total_width-width.ensures ∙ ap (total (gap_of task.style) (edge_of task.style)) c.as_slice.ensures)
-    c.in_ok-page_file.ensures refl
-    (c.in_ok-certificate_file.ensures.file ∙ ap (certificate_file task.certified) made)
-    (subst (IsReadBack task.certified) made c.in_ok-certificate_file.ensures.readable)
+    c.in_ok-page.ensures.page refl
+    (c.in_ok-page.ensures.certificate ∙ ap (certificate_file task.certified) made)
+    (subst (IsReadBack task.certified) made c.in_ok-page.ensures.readable)
     c.lowest_is_least.ensures c.bounded_is_between.ensures c.budget_closes.ensures c.open_spends.ensures)

@@ -9,4 +9,4 @@ found-requires-clause-wide g c = λ lifetimes outlives least is. c.requires.wide
     (subst (λ (table : Table). IsLeastWidth table c.args.task.now.style least) c.in_ok-subject.ensures.is.same is)
 
 pub laid-requires-clause-placed : goal.laid-requires-clause-placed
-laid-requires-clause-placed g c = rw c.in_ok-subject.ensures.is.same at c.in_ok-certificate.ensures.placed
+laid-requires-clause-placed g c κs within = rw c.in_ok-subject.ensures.is.same at c.in_ok-certificate.ensures.placed
