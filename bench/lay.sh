@@ -2,7 +2,7 @@
 # How long `lay` takes with the start of the process, and how much memory, beside w3m's (Debian package
 # `w3m`) in the same run. w3m estimates column widths; it proves nothing. Builds the program where it is
 # missing. Prints the machine; for each file its status and lines, the milliseconds of the middle one of five
-# runs and the megabytes of the last, those of w3m, and which part of w3m's time and memory they are.
+# runs and the megabytes of one more, those of w3m, and which part of w3m's time and memory they are.
 # The files are those of files.sh, at these widths in columns: first 7, demo 60, column 80, rows 120,
 # columns 300, nested 80, mebibyte 80, refused 80. At last the slowest of `demo 0` to `demo 19`; fails where
 # one of them does not close.
@@ -16,16 +16,17 @@ trap 'rm -rf "$files"' EXIT
 "$here/files.sh" "$files"
 
 # Sets `microseconds` to those of the middle one of five runs of a command, and `status`, `lines` and `kilobytes` to
-# those of the last.
+# those of one more run.
 measure() {
     local begun
     for _ in 1 2 3 4 5; do
-        begun=$(date +%s%N)
-        status=0
-        /usr/bin/time -f %M -o "$files/memory" "$@" >"$files/out" 2>/dev/null || status=$?
-        echo $((($(date +%s%N) - begun) / 1000))
+        begun=${EPOCHREALTIME/[.,]/}
+        "$@" >"$files/out" 2>/dev/null || true
+        echo $((${EPOCHREALTIME/[.,]/} - begun))
     done >"$files/times"
     microseconds=$(sort -n "$files/times" | sed -n 3p)
+    status=0
+    /usr/bin/time -f %M -o "$files/memory" "$@" >"$files/out" 2>/dev/null || status=$?
     lines=$(wc -l <"$files/out")
     kilobytes=$(tail -n 1 "$files/memory")
 }
@@ -52,9 +53,9 @@ done
 
 slowest=0
 for number in $(seq 0 19); do
-    begun=$(date +%s%N)
+    begun=${EPOCHREALTIME/[.,]/}
     "$program" demo "$number" >/dev/null
-    milliseconds=$((($(date +%s%N) - begun) / 1000000))
+    milliseconds=$(((${EPOCHREALTIME/[.,]/} - begun) / 1000))
     [ "$milliseconds" -le "$slowest" ] || slowest=$milliseconds
 done
 echo "demo 0 to demo 19: $slowest ms at most"

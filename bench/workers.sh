@@ -54,8 +54,8 @@ run_four() {
 }
 
 # Sets `begun` to the time, and prints the milliseconds since then.
-begin() { begun=$(date +%s%N); }
-spent() { echo $((($(date +%s%N) - begun) / 1000000)); }
+begin() { begun=${EPOCHREALTIME/[.,]/}; }
+spent() { echo $(((${EPOCHREALTIME/[.,]/} - begun) / 1000)); }
 
 # Prints the middle one of five numbers.
 middle() {
