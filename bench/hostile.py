@@ -23,7 +23,7 @@ from collections import Counter, defaultdict
 from pathlib import Path
 
 TOP = Path(__file__).resolve().parent.parent
-PROGRAM = TOP / "crates" / "tl_program" / "out" / "tl_program"
+PROGRAM = TOP / "crates" / "tablelayout" / "out" / "tablelayout"
 MOST_SECONDS = 10
 MOST_KILOBYTES = 200 * 1024
 CHECKED = {0, 3, 4, 10}

@@ -7,7 +7,7 @@
 set -euo pipefail
 here=$(dirname "$(readlink -f "${BASH_SOURCE[0]}")")
 "$here/../tablelayout" lay 7 "$here/../examples/first.html" /dev/stdout >/dev/null
-program=$here/../crates/tl_program/out/tl_program
+program=$here/../crates/tablelayout/out/tablelayout
 files=$(mktemp -d)
 trap 'rm -rf "$files"' EXIT
 failed=0

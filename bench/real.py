@@ -13,7 +13,7 @@ from pathlib import Path
 
 HERE = Path(__file__).resolve().parent
 FILTER = HERE.parent / "integrations" / "pandoc" / "tablelayout.lua"
-PROGRAM = HERE.parent / "crates" / "tl_program" / "out" / "tl_program"
+PROGRAM = HERE.parent / "crates" / "tablelayout" / "out" / "tablelayout"
 WIDTHS = (40, 60, 80, 120)
 DOCUMENTS, TABLES, DOCUMENT_COLUMNS, MOST_SECONDS = 20, 10, 72, 60
 LOWEST, BOUNDED, NARROW = 0, 3, 4

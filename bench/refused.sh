@@ -8,4 +8,4 @@ here=$(dirname "$(readlink -f "${BASH_SOURCE[0]}")")
 files=$(mktemp -d)
 trap 'rm -rf "$files"' EXIT
 "${CC:-cc}" -O1 -shared -fPIC -o "$files/refusing.so" "$here/refusing.c"
-python3 "$here/refused.py" "$here/../crates/tl_program/out/tl_program" "$files/refusing.so"
+python3 "$here/refused.py" "$here/../crates/tablelayout/out/tablelayout" "$files/refusing.so"

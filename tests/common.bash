@@ -3,7 +3,7 @@
 # empty folder, which is removed at the end.
 # shellcheck disable=SC2034,SC2154
 
-program=$top/crates/tl_program/out/tl_program
+program=$top/crates/tablelayout/out/tablelayout
 # shellcheck source=tools/building.bash
 . "$top/tools/building.bash"
 if ! is_built; then

@@ -8,11 +8,11 @@ top=$(dirname "$(dirname "$(readlink -f "${BASH_SOURCE[0]}")")")
 
 # A checkout of what is installed, which is moved away while that runs.
 checkout=${room:?}/checkout
-mkdir -p "$checkout/crates/tl_program/out" "$checkout/tools"
+mkdir -p "$checkout/crates/tablelayout/out" "$checkout/tools"
 cp -p "$top/tablelayout" "$top/crates.txt" "$checkout"
 cp -p "$top/tools/building.bash" "$checkout/tools"
 cp -pR "$top/command" "$top/integrations" "$checkout"
-cp -p "$program" "$checkout/crates/tl_program/out"
+cp -p "$program" "$checkout/crates/tablelayout/out"
 # Nothing is found that could prove and build.
 PATH=/usr/bin:/bin
 unset DESTDIR
@@ -28,7 +28,7 @@ libexec/tablelayout/folders
 libexec/tablelayout/place.awk
 libexec/tablelayout/record.awk
 libexec/tablelayout/show
-libexec/tablelayout/tl_program
+libexec/tablelayout/tablelayout
 share
 share/bash-completion
 share/bash-completion/completions
@@ -96,6 +96,7 @@ rm -r "$to"
 mkdir "$to"
 DESTDIR=$to "$checkout/tablelayout" install /usr/local
 (cd "$to" && find . -name tablelayout -type f) | LC_ALL=C sort | expect_text "./usr/local/bin/tablelayout
+./usr/local/libexec/tablelayout/tablelayout
 ./usr/local/share/bash-completion/completions/tablelayout" "below DESTDIR"
 DESTDIR=$to "$checkout/tablelayout" uninstall /usr/local
 cd "$to" || exit 1

@@ -20,11 +20,11 @@ prove_and_build() {
     echo "tablelayout: proving and building the program; the first time takes about 20 minutes on four processors" >&2
     # A program of older sources is not run where these are not proved.
     rm -f "$program"
-    "$top/tools/prove_libraries.py" tl_program </dev/null || exit 1
+    "$top/tools/prove_libraries.py" tablelayout </dev/null || exit 1
     log=$(mktemp)
-    echo "tablelayout: tl_program, and the program itself" >&2
+    echo "tablelayout: the program itself" >&2
     # Without arguments the program prints `usage`, and ends with a status of its own.
-    (cd "$top/crates/tl_program" && rt run --jobs "$(nproc)" </dev/null) >"$log" 2>&1
+    (cd "$top/crates/tablelayout" && rt run --jobs "$(nproc)" </dev/null) >"$log" 2>&1
     [ -x "$program" ] || give_up "the program was not built" "$log"
     touch "$program"
     rm -f "$log"
@@ -40,7 +40,7 @@ preview_unbuilt() {
         echo "read fault"
         exit 7
     fi
-    (cd "$top/crates/tl_program" && rt try --data "in=$room/in" -- lay "$1" in /dev/stdout "${@:3}" </dev/null) 2>"$room/log"
+    (cd "$top/crates/tablelayout" && rt try --data "in=$room/in" -- lay "$1" in /dev/stdout "${@:3}" </dev/null) 2>"$room/log"
     status=$?
     grep -q "^run=ended" "$room/log" || give_up "the preview came to no end" "$room/log"
     rm -rf "$room"

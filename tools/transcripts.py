@@ -22,7 +22,7 @@ import tempfile
 from pathlib import Path
 
 TOP = Path(__file__).resolve().parent.parent
-PROGRAM = Path("crates/tl_program/out/tl_program")
+PROGRAM = Path("crates/tablelayout/out/tablelayout")
 # Without this file the launcher proves nothing.
 PROVER = "prove_libraries.py"
 FENCE = re.compile(r"^```[^\n]*\n(.*?)^```$", re.M | re.S)

@@ -12,6 +12,7 @@ use Rattle.tl_read.specs.declared.refusal.RecordFault.TheVariants as records
 use Rattle.tl_read.specs.declared.source.Source.TheVariants.{Csv, Html}
 use Rattle.tl_read.specs.declared.refusal.Fault.TheVariants as faults
 use Rattle.tl_read.specs.declared.refusal.Refusal.TheVariants as refusals
+use Rattle.tl_program.specs.declared.rejection.Rejection.TheVariants as rejections
 use Rattle.tl_program.specs.declared.report.Report.TheVariants as reports
 use Rattle.tl_command.specs.declared.command.Command.{Command}
 use Rattle.tl_command.specs.declared.command.Command.TheVariants.{Lay, Check}
@@ -48,6 +49,10 @@ refused = refl
 -- the message where the arguments are invalid
 usage : message_of reports.Usage ≡ codes "usage" ++ 10 ∷ []
 usage = refl
+
+-- and where a certificate has too many bytes, which no test has
+too_long : message_of (reports.Rejected rejections.TooLong) ≡ codes "rejected: too long" ++ 10 ∷ []
+too_long = refl
 
 -- a certificate without a name is not stored
 unnamed : stored_as None (Some (1 ∷ [])) ≡ None

@@ -1,41 +1,15 @@
-//! Lays out a table on a page of fixed-width text, as low as any layout can be, with a certificate
-//! that no page is lower. It depends on the crates that read arguments and files, search, judge and
-//! draw; here are the order of the steps and the messages. Its one contract: the statuses of `run`,
-//! what is stored and printed after each, and what the page and the certificate are.
+//! The program: it carries out the arguments of its command line over the files of the system and standard
+//! output. Its one contract is that of `tl_program::run`, whose status it ends with.
 #![tactic(auto)]
 
 ghost use Rattle.std.specs.Prelude.{◌≡◌, ◌≢◌};
 ghost use Rattle.std.specs.IoError.{error_kind};
 
-mod answer;
-mod budget;
-mod check;
-mod input;
-mod lay;
-mod limits;
-mod makers;
-mod messages;
-mod names;
-mod narrow;
-mod output;
-mod rejection;
-mod report;
-mod rounds;
-mod run;
-mod status;
-mod summary;
-mod task;
-#[cfg(test)]
-mod tests;
-mod tidy;
-mod widths;
-
-use run::run;
-use status::Status;
 use std::env;
 use std::io::{self, ErrorKind};
 use std::process::ExitCode;
 use tl_base::{NoGate, RealDesk};
+use tl_program::{Status, run};
 
 /// Carries out the arguments of the command line. Where they cannot be had, nothing is printed.
 fn main(rt: HostRuntime) -> ExitCode {

@@ -16,7 +16,7 @@ use Rattle.tl_program.proofs.Narrowest.{finds, holds_none, refused_slim, stores_
 use Rattle.tl_program.proofs.TidyAlike.{tidy_alike}
 use Rattle.tl_program.proofs.Tidiest.{stores_tidy}
 use Rattle.tl_program.proofs.Untidy.{TidyLaws, finds_tidy, refuses_tidy, stores_untidy, tidy_fits_none}
-use Rattle.tl_program.proofs.run.run.Goals as goal
+use Rattle.tl_program.proofs.running.run.Goals as goal
 
 -- what holds of a status holds of its number
 numbered : (Says : List (List ℕ) → Change → ℕ → Type 0) (words : List (List ℕ)) (change : Change) (n status : ℕ) → n ≡ status →

@@ -9,7 +9,7 @@ use Rattle.tl_program.specs.inner.Steps.{GoesOn}
 use Rattle.tl_program.specs.Tasks.{task_of}
 use Rattle.tl_program.proofs.Asking.{comes_of}
 use Rattle.tl_program.proofs.Loading.{follows_load, loaded_as, reported_ends, went_on_ends}
-use Rattle.tl_program.proofs.run.check_file.Goals as goal
+use Rattle.tl_program.proofs.running.check_file.Goals as goal
 
 pub returns-in-Ok-Table : goal.returns-in-Ok-Table
 returns-in-Ok-Table g c = record {

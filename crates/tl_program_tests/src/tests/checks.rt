@@ -3,9 +3,6 @@
 use super::{
     Left, NESTED, ONE, SPANNED, TWO, check_left, desk, desk_with, held, repeated, status_of,
 };
-use crate::messages::text;
-use crate::rejection::Rejection;
-use crate::report::Report;
 use std::alloc::{AllocError, Global};
 use std::process::Abort;
 use std::test::Fail as Failure;
@@ -595,14 +592,6 @@ fn a_certificate_at_the_limits_is_accepted(rt: HostRuntime) -> Result<(), Failur
         let file = format!(in alloc; "{start}{}{end}", inner.as_str())?;
         laid_and_checked(&rt, width, file.as_str(), "", "")?;
     }
-    Ok(())
-}
-
-// No file of these tests has more bytes than a certificate may have.
-#[test]
-fn a_certificate_that_is_too_long_has_a_message(rt: HostRuntime) -> Result<(), Failure> {
-    let message = text(rt.alloc(), Report::Rejected(Rejection::TooLong))?;
-    assert_eq!(rt; message.as_str(), "rejected: too long\n");
     Ok(())
 }
 

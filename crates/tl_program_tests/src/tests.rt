@@ -1,4 +1,4 @@
-//! Runs the program over files in memory: each status with its files and its message.
+//! Runs command lines over files in memory: each status with its files and its message.
 
 mod certificates;
 mod checks;
@@ -15,13 +15,13 @@ mod tidy;
 mod usage;
 mod workers;
 
-use crate::run::run;
 use std::alloc::{AllocError, Global};
 use std::collections::BTreeMap;
 use std::process::Abort;
 use std::test::Fail as Failure;
 use std::thread::Threads;
 use tl_base::{Fail, List, MemoryDesk, NoGate};
+use tl_program::run;
 
 /// Three words in one cell.
 const ONE: &str = "<table><tr><td>aa bb cc</table>";

@@ -7,7 +7,7 @@ use Rattle.tl_program.specs.declared.report.Report.TheVariants as reports
 use Rattle.tl_program.specs.Change.{between}
 use Rattle.tl_program.proofs.Asking.{slim_in_range, task_in_range}
 use Rattle.tl_program.proofs.Ends.{printed_ends}
-use Rattle.tl_program.proofs.run.carry_out.Goals as goal
+use Rattle.tl_program.proofs.running.carry_out.Goals as goal
 
 pub lay_file-requires-clause-range : goal.lay_file-requires-clause-range
 lay_file-requires-clause-range g c = λ lifetimes outlives.

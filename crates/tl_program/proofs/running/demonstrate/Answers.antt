@@ -8,7 +8,7 @@ use Rattle.tl_program.specs.Demonstration.{IsDemonstrated}
 use Rattle.tl_program.specs.Deliveries.{Delivery}
 use Rattle.tl_program.proofs.Asking.{comes_of}
 use Rattle.tl_program.proofs.Ends.{delivered_ends}
-use Rattle.tl_program.proofs.run.demonstrate.Goals as goal
+use Rattle.tl_program.proofs.running.demonstrate.Goals as goal
 
 pub returns-in-Ok : goal.returns-in-Ok
 returns-in-Ok g c = record {
