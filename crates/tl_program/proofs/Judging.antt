@@ -41,6 +41,7 @@ use Rattle.tl_program.specs.Answers.{budget_in}
 use Rattle.tl_program.specs.Checks.{IsValidIn, columns_shown, IsShownAs, lowest_shown, bounded_shown, narrow_shown, IsJudged}
 use Rattle.tl_program.specs.Rejections.{text_rejection, step_rejection}
 use Rattle.tl_program.specs.inner.Claims.{HasFewColumns, report_of}
+use Rattle.tl_program.specs.inner.Steps.{IsReadAs}
 use Rattle.tl_narrow.proofs.Certifying.{own_least, last_found, last_of, last_is}
 
 -- ---- few columns
@@ -192,38 +193,36 @@ none_some : (found : Rejection) → None ≡ Some found → ⊥
 none_some found e = absurd cc
 
 -- bytes that are no certificate's
-pub text_rejected : (task : Task) (table : Table) (text : List ℕ) (error : CertError) (result : Result Report AllocError)
-    (rejection : Option Rejection) →
-    rejection ≡ text_rejection error → Tells rejection result → IsMemoryOr (texts.Memory alloc_error) (IsNoText text) error →
-    ((certificate : Certificate) → IsTextOf text certificate → error ≡ texts.Memory alloc_error) →
-    IfOk result (IsJudged task table text)
-text_rejected task table text error (Err failed) rejection is tells why never = tt
-text_rejected task table text error (Ok report) rejection is tells why never = inr (record {
+pub text_rejected : (task : Task) (table : Table) (error : CertError) (result : Result Report AllocError)
+    (rejection : Option Rejection) → rejection ≡ text_rejection error → Tells rejection result →
+    IfOk result (λ report. (text : List ℕ) → IsReadAs text (Err error) → IsJudged task table text report)
+text_rejected task table error (Err failed) rejection is tells = tt
+text_rejected task table error (Ok report) rejection is tells = λ text read. inr (record {
   rejection = tells.0;
   told = tells.2;
-  reason = inl (error, refused why, sym is ∙ tells.1);
-  never = λ certificate text_is valid. no_memory (never certificate text_is);
+  reason = inl (error, refused text read.err, sym is ∙ tells.1);
+  never = λ certificate text_is valid. no_memory (read.each_ok certificate text_is);
 }) where
   no_memory : error ≡ texts.Memory alloc_error → ⊥
   no_memory same = none_some tells.0 (sym (is ∙ ap text_rejection same) ∙ tells.1)
 
-  refused : IsMemoryOr (texts.Memory alloc_error) (IsNoText text) error → IsNoText text error
-  refused (inl same) = absurd (no_memory same)
-  refused (inr cause) = cause
+  refused : (text : List ℕ) → IsMemoryOr (texts.Memory alloc_error) (IsNoText text) error → IsNoText text error
+  refused text (inl same) = absurd (no_memory same)
+  refused text (inr cause) = cause
 
 -- a certificate that is not valid
-pub step_rejected : (task : Task) (table : Table) (text : List ℕ) (certificate : Certificate) (reject : Reject)
-    (result : Result Report AllocError)
-    (rejection : Option Rejection) → rejection ≡ step_rejection reject → Tells rejection result → IsTextOf text certificate →
+pub step_rejected : (task : Task) (table : Table) (certificate : Certificate) (reject : Reject) (result : Result Report AllocError)
+    (rejection : Option Rejection) → rejection ≡ step_rejection reject → Tells rejection result →
     IsMemoryOr (steps.Memory alloc_error) (IsRefusedAs table task.style task.width (budget_in task table) certificate) reject →
-    (IsValidIn task table certificate → reject ≡ steps.Memory alloc_error) → IfOk result (IsJudged task table text)
-step_rejected task table text certificate reject (Err failed) rejection is tells text_is why never = tt
-step_rejected task table text certificate reject (Ok report) rejection is tells text_is why never = inr (record {
+    (IsValidIn task table certificate → reject ≡ steps.Memory alloc_error) →
+    IfOk result (λ report. (text : List ℕ) → IsReadAs text (Ok certificate) → IsJudged task table text report)
+step_rejected task table certificate reject (Err failed) rejection is tells why never = tt
+step_rejected task table certificate reject (Ok report) rejection is tells why never = λ text read. inr (record {
   rejection = tells.0;
   told = tells.2;
-  reason = inr (certificate, reject, text_is, refused why, sym is ∙ tells.1);
+  reason = inr (certificate, reject, read.ok, refused why, sym is ∙ tells.1);
   never = λ other other_is valid.
-      no_memory (never (subst (IsValidIn task table) (one_certificate text other certificate other_is text_is) valid));
+      no_memory (never (subst (IsValidIn task table) (one_certificate text other certificate other_is read.ok) valid));
 }) where
   no_memory : reject ≡ steps.Memory alloc_error → ⊥
   no_memory same = none_some tells.0 (sym (is ∙ ap step_rejection same) ∙ tells.1)
@@ -233,3 +232,16 @@ step_rejected task table text certificate reject (Ok report) rejection is tells 
       IsRefusedAs table task.style task.width (budget_in task table) certificate reject
   refused (inl same) = absurd (no_memory same)
   refused (inr cause) = cause
+
+-- what was found of the text that was read
+pub judged_text : (task : Task) (table : Table) (text : List ℕ) (read : Result Certificate CertError)
+    (result : Result Report AllocError) → IsReadAs text read →
+    IfOk result (λ report. (text : List ℕ) → IsReadAs text read → IsJudged task table text report) →
+    IfOk result (IsJudged task table text)
+judged_text task table text read (Err failed) is judged = tt
+judged_text task table text read (Ok report) is judged = judged text is
+
+-- a certificate that was read can be written
+pub written : (text : List ℕ) (read : Result Certificate CertError) → IfOk read (IsTextOf text) → IfOk read IsWritable
+written text (Err error) is = tt
+written text (Ok certificate) is = is.writable

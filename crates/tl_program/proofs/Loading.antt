@@ -6,6 +6,7 @@ use Rattle.tl_base.specs.declared.limits.TheConstants.{MAX_FILE_BYTES}
 use Rattle.tl_base.specs.Desk.{Files, IsReadFrom, Rose}
 use Rattle.tl_command.specs.Ask.{Asked}
 use Rattle.tl_table.specs.declared.cell.Table.{Table}
+use Rattle.tl_read.specs.declared.refusal.Refusal.{Refusal}
 use Rattle.tl_program.specs.declared.input.Input.{Input}
 use Rattle.tl_program.specs.declared.input.Input.TheVariants as inputs
 use Rattle.tl_program.specs.declared.report.Report.{Report}
@@ -18,6 +19,7 @@ use Rattle.tl_base.specs.declared.desk.Desk.{Ghosts}
 use Rattle.tl_program.specs.Change.{Change, Holds, between}
 use Rattle.tl_program.specs.Deliveries.{Delivery, reported, ComesOfInput, IsUnread}
 use Rattle.tl_program.specs.Headline.{ComesOf, Ends}
+use Rattle.tl_program.specs.Inputs.{IsOfBytes}
 use Rattle.tl_program.specs.Messages.{status_number}
 use Rattle.tl_program.specs.Tasks.{task_on}
 use Rattle.tl_program.specs.inner.Printing.{IsDelivered}
@@ -62,6 +64,25 @@ one_report one other e = cc
 
 one_table : (one other : Table) (budget another : ℕ) → inputs.Table one budget ≡ inputs.Table other another → one ≡ other
 one_table one other budget another e = cc
+
+-- what comes of bytes that give a table holds where it holds of that one
+pub of_given_table : (task : Task) (bytes : List ℕ) (input : Input) (table : Table) (budget : ℕ) (Refuses : Refusal → Type 0)
+    (Own : Table → Type 0) → input ≡ inputs.Table table budget → GivesInput task bytes input → Own table →
+    IsOfBytes task.source (reach task) Refuses Own bytes
+of_given_table task bytes input table budget Refuses Own is given own = of_bytes_mapped task.source (reach task)
+    (GivesRefusal input) Refuses (GivesTable task input) Own
+    (λ refusal told. absurd (no_report table budget (reports.Refused refusal) (sym is ∙ told)))
+    (λ found told. subst Own (one_table table found budget (budget_in task found) (sym is ∙ told)) own) bytes given
+
+-- and of bytes that give a report, where it holds of the refusal that is reported
+pub of_given_report : (task : Task) (bytes : List ℕ) (input : Input) (report : Report) (Refuses : Refusal → Type 0)
+    (Own : Table → Type 0) → input ≡ inputs.Reported report → GivesInput task bytes input →
+    ((refusal : Refusal) → report ≡ reports.Refused refusal → Refuses refusal) →
+    IsOfBytes task.source (reach task) Refuses Own bytes
+of_given_report task bytes input report Refuses Own is given refuses = of_bytes_mapped task.source (reach task)
+    (GivesRefusal input) Refuses (GivesTable task input) Own
+    (λ refusal told. refuses refusal (one_report report (reports.Refused refusal) (sym is ∙ told)))
+    (λ table told. absurd (no_report table (budget_in task table) report (sym told ∙ is))) bytes given
 
 -- ---- how the command ends
 
@@ -110,11 +131,8 @@ module _ (words : List (List ℕ)) (change second : Change) (width : ℕ) (asked
   report_comes report is count (inr (stay, (bytes, holds, of))) = inr (
     bytes,
     holds,
-    of_bytes_mapped (task_on width asked).source (reach (task_on width asked)) (GivesRefusal input)
-        (λ refusal. reported report ≡ reported (reports.Refused refusal)) (GivesTable (task_on width asked) input)
-        (λ table. Own table (reported report))
-        (λ refusal given. ap reported (one_report report (reports.Refused refusal) (sym is ∙ given)))
-        (λ table given. absurd (no_report table (budget_in (task_on width asked) table) report (sym given ∙ is))) bytes of,
+    of_given_report (task_on width asked) bytes input report (λ refusal. reported report ≡ reported (reports.Refused refusal))
+        (λ table. Own table (reported report)) is of (λ refusal told. ap reported told),
   )
 
   pub reported_ends : (report : Report) → input ≡ inputs.Reported report → second.load_faults_after ≡ second.load_faults →
@@ -137,12 +155,8 @@ module _ (words : List (List ℕ)) (change second : Change) (width : ℕ) (asked
   own_comes table budget is delivery (inr own) (inr (stay, (bytes, holds, of))) = inr (
     bytes,
     holds,
-    of_bytes_mapped (task_on width asked).source (reach (task_on width asked)) (GivesRefusal input)
-        (λ refusal. delivery ≡ reported (reports.Refused refusal)) (GivesTable (task_on width asked) input)
-        (λ found. Own found delivery)
-        (λ refusal given. absurd (no_report table budget (reports.Refused refusal) (sym is ∙ given)))
-        (λ found given. subst (λ (t : Table). Own t delivery)
-        (one_table table found budget (budget_in (task_on width asked) found) (sym is ∙ given)) own) bytes of,
+    of_given_table (task_on width asked) bytes input table budget (λ refusal. delivery ≡ reported (reports.Refused refusal))
+        (λ found. Own found delivery) is of own,
   )
 
   pub went_on_ends : (table : Table) (budget : ℕ) → input ≡ inputs.Table table budget → GoesOn (Own table) result second →

@@ -1,9 +1,10 @@
 //! The own part of `check`: what the text of a certificate shows of the table of its file, or why it is
 //! rejected. No search is called.
 
-ghost use Rattle.std.specs.Prelude.{◌≡◌, ◌⊎◌, ◌≤◌, IfOk, Some, length};
+ghost use Rattle.std.specs.Prelude.{◌≡◌, ◌⊎◌, ◌≤◌, ℕ, List, IfOk, Some, length};
 ghost use Rattle.std.specs.List.{last_or};
 ghost use Rattle.tl_base.specs.Desk.{Rose};
+ghost use Rattle.tl_cert.specs.Text.{IsWritable};
 ghost use Rattle.tl_command.specs.Ask.{asked_by};
 ghost use Rattle.tl_program.specs.declared.rejection.Rejection.{Rejection as R};
 ghost use Rattle.tl_program.specs.declared.report.Report.TheVariants as reports;
@@ -11,10 +12,11 @@ ghost use Rattle.tl_program.specs.Change.{between};
 ghost use Rattle.tl_program.specs.Checks.{IsChecked, IsJudged, IsJudgedIn, page_columns};
 ghost use Rattle.tl_program.specs.Tasks.{task_of};
 ghost use Rattle.tl_program.specs.inner.Claims.{HasFewColumns, report_of};
-ghost use Rattle.tl_program.specs.inner.Steps.{GoesOn, IsUsableTable};
+ghost use Rattle.tl_program.specs.inner.Steps.{GivesInput, GoesOn, IsJudgedOn, IsReadAs, IsTaskInRange};
+ghost use Rattle.tl_program.specs.inner.Steps.{IsUsable, IsUsableTable, ReportsOn};
 
-use crate::input::load;
-use crate::names::judged_name;
+use crate::input::{Input, load, read_input};
+use crate::names::{input_name, judged_name};
 use crate::output::deliver;
 use crate::rejection::{Rejection, step_rejection, text_rejection};
 use crate::report::{Report, report_of};
@@ -22,9 +24,10 @@ use crate::status::Status;
 use crate::task::Task;
 use crate::widths::total_width;
 use std::alloc::{AllocError, Global};
+use std::thread;
 use std::thread::Threads;
-use tl_base::{Desk, Gate, MAX_CERTIFICATE_BYTES, Style};
-use tl_cert::{Certificate, Section, read};
+use tl_base::{Desk, Gate, MAX_CERTIFICATE_BYTES, MAX_FILE_BYTES, Style};
+use tl_cert::{CertError, Certificate, Section, read};
 use tl_command::Ask;
 use tl_form::{
     bounded_is_between, budget_closes, lowest_is_least, narrow_is_too_wide, open_spends,
@@ -63,20 +66,22 @@ fn shown(task: &Task, certificate: &Certificate) -> Report
     report_of(task.width, certificate.claim, width)
 }
 
-/// Judges the text of a certificate for what is asked of the table.
-pub fn judge<R: Threads + Sync, G: Gate>(
+/// Judges what the text of a certificate was read as, for what is asked of the table.
+fn judge<R: Threads + Sync, G: Gate>(
     rt: &R,
     alloc: Global,
     task: &Task,
     table: &Table,
     budget: u32,
-    text: &[u8],
+    certificate: Result<Certificate, CertError>,
     gate: &G,
 ) -> Result<Report, AllocError>
     requires usable { IsUsableTable task.now table.now budget }
-    ensures { IfOk result (IsJudged task.now table.now text.now) }
+    requires written { IfOk certificate IsWritable }
+    ensures { IfOk result (λ report. (text : List ℕ) → IsReadAs text certificate
+        → IsJudged task.now table.now text report) }
 {
-    let certificate = match read(alloc, text) {
+    let certificate = match certificate {
         Ok(certificate) => certificate,
         Err(error) => return rejected(text_rejection(error)),
     };
@@ -125,7 +130,63 @@ fn judge_file<R: Threads + Sync, D: Desk, G: Gate>(
     let Some(text) = load(desk, name, MAX_CERTIFICATE_BYTES as u32)? else {
         return Ok(Report::ReadFault);
     };
-    judge(rt, alloc, task, table, budget, text.as_slice(), gate)
+    let certificate = read(alloc, text.as_slice());
+    judge(rt, alloc, task, table, budget, certificate, gate)
+}
+
+/// Reads a file of these bytes and the text of a certificate at one time.
+fn read_both<R: Threads + Sync>(
+    rt: &R,
+    alloc: Global,
+    task: &Task,
+    bytes: &[u8],
+    text: &[u8],
+) -> (Result<Input, AllocError>, Result<Certificate, CertError>)
+    requires { IsTaskInRange task.now }
+    ensures given { IfOk result.0 (GivesInput task.now bytes.now) }
+    ensures usable { IfOk result.0 (IsUsable task.now) }
+    ensures read { IsReadAs text.now result.1 }
+{
+    let input = || -> Result<Input, AllocError>
+        requires { IsTaskInRange task.now }
+        ensures { IfOk result (λ input. GivesInput task.entry.now bytes.entry.now input × IsUsable task.entry.now input) }
+    { read_input(alloc, task, bytes) };
+    let certificate = || -> Result<Certificate, CertError>
+        ensures { IsReadAs text.entry.now result }
+    { read(alloc, text) };
+    thread::join(rt, input, certificate)
+}
+
+/// What a file of these bytes and the text of its certificate come to. Both are read at one time.
+fn judge_both<R: Threads + Sync, G: Gate>(
+    rt: &R,
+    alloc: Global,
+    task: &Task,
+    bytes: &[u8],
+    text: &[u8],
+    gate: &G,
+) -> Result<Report, AllocError>
+    requires { IsTaskInRange task.now }
+    ensures { IfOk result (λ report. ReportsOn task.now (λ table. IsJudged task.now table text.now report) bytes.now report) }
+{
+    let (input, certificate) = read_both(rt, alloc, task, bytes, text);
+    match input? {
+        Input::Table { table, budget } => {
+            judge(rt, alloc, task, &table, budget, certificate, gate)
+        }
+        Input::Reported(report) => Ok(report),
+    }
+}
+
+/// What a file of these bytes comes to where that of its certificate could not be read.
+fn unread(alloc: Global, task: &Task, bytes: &[u8]) -> Result<Report, AllocError>
+    requires { IsTaskInRange task.now }
+    ensures { IfOk result (λ report. (report ≡ reports.ReadFault) ⊎ ReportsOn task.now (λ table. ⊥) bytes.now report) }
+{
+    match read_input(alloc, task, bytes)? {
+        Input::Table { .. } => Ok(Report::ReadFault),
+        Input::Reported(report) => Ok(report),
+    }
 }
 
 /// Judges the certificate of the table, and prints what it shows or why it is rejected.
@@ -150,4 +211,32 @@ pub fn check_table<R: Threads + Sync, D: Desk, G: Gate>(
         Ok(report) => deliver(alloc, desk, report, &[]),
         Err(_) => Status::Memory,
     }
+}
+
+/// What the files of a check come to where both are loaded before either is read: one of them could not be
+/// read, the first is refused, or the certificate in the second is judged for the table in the first.
+pub fn judge_files<R: Threads + Sync, D: Desk, G: Gate>(
+    rt: &R,
+    alloc: Global,
+    ask: &Ask<'_>,
+    task: &Task,
+    desk: &mut D,
+    gate: &G,
+) -> Result<Report, AllocError>
+    requires names { 2 ≤ length ask.now.names.now }
+    requires range { IsTaskInRange task.now }
+    ensures report { IfOk result (λ report.
+        ((report ≡ reports.ReadFault) × Rose (D.load_faults desk.old) (D.load_faults desk.new))
+        ⊎ IsJudgedOn task.now (asked_by ask.now) (D.files desk.old) report) }
+    ensures files_stay { D.files desk.new ≡ D.files desk.old }
+    ensures said_stays { D.said desk.new ≡ D.said desk.old }
+    ensures writes_stay { D.write_faults desk.new ≡ D.write_faults desk.old }
+{
+    let Some(bytes) = load(desk, input_name(ask), MAX_FILE_BYTES as u32)? else {
+        return Ok(Report::ReadFault);
+    };
+    let Some(text) = load(desk, judged_name(ask), MAX_CERTIFICATE_BYTES as u32)? else {
+        return unread(alloc, task, bytes.as_slice());
+    };
+    judge_both(rt, alloc, task, bytes.as_slice(), text.as_slice(), gate)
 }

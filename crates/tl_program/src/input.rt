@@ -1,7 +1,7 @@
 //! What the file of a command gives it: a table with the budget of each search, or a report of why
 //! there is none. Every command on a file begins here.
 
-ghost use Rattle.std.specs.Prelude.{◌≡◌, ◌⊎◌, ◌+◌, ◌≤◌, IfOk, IfNone, IfSome, length};
+ghost use Rattle.std.specs.Prelude.{◌≡◌, ◌+◌, ◌≤◌, IfOk, IfNone, IfSome, length};
 ghost use Rattle.tl_base.specs.Desk.{IsReadFrom, Rose};
 ghost use Rattle.tl_command.specs.Ask.{asked_by};
 ghost use Rattle.tl_program.specs.inner.Steps.{GivesInput, IsLoaded, IsTaskInRange, IsUsable};
@@ -47,7 +47,7 @@ pub fn load_input<D: Desk>(
 }
 
 /// What a file of these bytes gives a command.
-fn read_input(alloc: Global, task: &Task, bytes: &[u8]) -> Result<Input, AllocError>
+pub fn read_input(alloc: Global, task: &Task, bytes: &[u8]) -> Result<Input, AllocError>
     requires { IsTaskInRange task.now }
     ensures given { IfOk result (GivesInput task.now bytes.now) }
     ensures usable { IfOk result (IsUsable task.now) }

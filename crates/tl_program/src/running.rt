@@ -17,7 +17,7 @@ ghost use Rattle.tl_program.specs.Tasks.{slim_task, task_of};
 ghost use Rattle.tl_program.specs.Tidiest.{AcceptsTidy, FindsTidy, RefusesTidy, StoresTidy, StoresUntidy, TidyFitsNone};
 ghost use Rattle.tl_program.specs.inner.Steps.{IsTaskInRange};
 
-use crate::check::check_table;
+use crate::check::{check_table, judge_files};
 use crate::input::{Input, load_input};
 use crate::lay::lay_table;
 use crate::narrow::narrow_table;
@@ -35,7 +35,8 @@ use tl_form::{all_counts_rise, budget_closes, counts_exist, counts_rise};
 use tl_narrow::{kept_has_slimmest, met_is_slimmest, slimmest_is_no_less};
 
 /// Carries out the arguments of the command line over the desk, and returns the exit status; where memory
-/// runs out that is 9. Each piece of work that workers do at one time passes the gate once, before it begins.
+/// runs out that is 9. What workers search or judge at one time passes the gate, piece by piece, once before it
+/// begins.
 pub fn run<R: Threads + Sync, D: Desk, G: Gate>(
     rt: &R,
     alloc: Global,
@@ -175,7 +176,7 @@ fn tidy_file<R: Threads + Sync, D: Desk, G: Gate>(
     }
 }
 
-/// Reads the file, and judges the certificate of its table.
+/// Reads the file, and judges the certificate of its table. Two workers read both at one time.
 fn check_file<R: Threads + Sync, D: Desk, G: Gate>(
     rt: &R,
     alloc: Global,
@@ -190,11 +191,36 @@ fn check_file<R: Threads + Sync, D: Desk, G: Gate>(
         (between D.Desk desk.old desk.new) (status_number result) }
 {
     let task = Task::of(ask);
+    if task.workers > 1 {
+        return check_at_once(rt, alloc, ask, &task, desk, gate);
+    }
     match load_input(alloc, ask, &task, desk) {
         Ok(Input::Table { table, budget }) => {
             check_table(rt, alloc, ask, &task, &table, budget, desk, gate)
         }
         Ok(Input::Reported(report)) => deliver(alloc, desk, report, &[]),
+        Err(_) => Status::Memory,
+    }
+}
+
+/// Loads the file and the certificate of its table, judges it, and prints what it shows or why it is rejected.
+fn check_at_once<R: Threads + Sync, D: Desk, G: Gate>(
+    rt: &R,
+    alloc: Global,
+    ask: &Ask<'_>,
+    task: &Task,
+    desk: &mut D,
+    gate: &G,
+) -> Status
+    requires command { ask.now.command ≡ commands.Check }
+    requires names { 2 ≤ length ask.now.names.now }
+    requires task { task.now ≡ task_of (asked_by ask.now) }
+    requires range { IsTaskInRange task.now }
+    ensures ends { (words : List (List ℕ)) → IsAsk words (asked_by ask.now) → Ends words
+        (between D.Desk desk.old desk.new) (status_number result) }
+{
+    match judge_files(rt, alloc, ask, task, desk, gate) {
+        Ok(report) => deliver(alloc, desk, report, &[]),
         Err(_) => Status::Memory,
     }
 }

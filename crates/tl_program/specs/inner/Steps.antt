@@ -1,7 +1,12 @@
 -- No public clause cites this file: it says what a file gives the command that reads it, and how that command goes on.
-use Rattle.std.specs.Prelude.{◌≡◌, ◌⊎◌, ℕ, ◌<◌, ◌≤◌, List, Option, IfSome}
+use Rattle.std.specs.Prelude.{◌≡◌, ◌⊎◌, ℕ, ◌<◌, ◌≤◌, List, Option, IfSome, Result, IfOk, IfErr, alloc_error}
 use Rattle.tl_base.specs.declared.limits.TheConstants.{MAX_BUDGET, MAX_PAGE_WIDTH, MAX_REACH}
 use Rattle.tl_base.specs.Desk.{Files, Rose}
+use Rattle.tl_base.specs.Returned.{IsMemoryOr, ReturnsOk}
+use Rattle.tl_cert.specs.declared.certificate.Certificate.{Certificate}
+use Rattle.tl_cert.specs.declared.error.CertError.{CertError}
+use Rattle.tl_cert.specs.declared.error.CertError.TheVariants.{Memory}
+use Rattle.tl_cert.specs.Faults.{IsTextOf, IsNoText}
 use Rattle.tl_command.specs.Ask.{Asked}
 use Rattle.tl_table.specs.declared.cell.Table.{Table}
 use Rattle.tl_table.specs.FewCells.{HasFewCells}
@@ -11,13 +16,15 @@ use Rattle.tl_read.specs.declared.refusal.Refusal.{Refusal}
 use Rattle.tl_read.specs.declared.refusal.Refusal.TheVariants as refusals
 use Rattle.tl_program.specs.declared.input.Input.{Input}
 use Rattle.tl_program.specs.declared.input.Input.TheVariants as inputs
+use Rattle.tl_program.specs.declared.report.Report.{Report}
 use Rattle.tl_program.specs.declared.report.Report.TheVariants as reports
 use Rattle.tl_program.specs.declared.status.Status.{Status}
 use Rattle.tl_program.specs.declared.status.Status.TheVariants as statuses
 use Rattle.tl_program.specs.declared.task.Task.{Task}
 use Rattle.tl_program.specs.Answers.{budget_in, reach}
-use Rattle.tl_program.specs.Asks.{input_name}
+use Rattle.tl_program.specs.Asks.{input_name, judged_name}
 use Rattle.tl_program.specs.Change.{Change}
+use Rattle.tl_program.specs.Checks.{IsJudgedIn}
 use Rattle.tl_program.specs.Deliveries.{Delivery, IsUnread}
 use Rattle.tl_program.specs.Inputs.{IsOfBytes, IsOfFile}
 use Rattle.tl_program.specs.inner.Printing.{IsDelivered}
@@ -41,6 +48,10 @@ GivesTable task input table = input ≡ inputs.Table table (budget_in task table
 abbrev pub GivesInput : Task → List ℕ → Input → Type 0
 GivesInput task bytes input = IsOfBytes task.source (reach task) (GivesRefusal input) (GivesTable task input) bytes
 
+-- what is reported of bytes: that they are refused, or what holds of their table
+abbrev pub ReportsOn : Task → (Table → Type 0) → List ℕ → Report → Type 0
+ReportsOn task Own bytes report = IsOfBytes task.source (reach task) (λ refusal. report ≡ reports.Refused refusal) Own bytes
+
 -- what the file of a command gives
 abbrev pub IsInputIn : Task → Asked → Option Files → Input → Type 0
 IsInputIn task asked files input = IsOfFile task.source (reach task) (GivesRefusal input) (GivesTable task input) files
@@ -50,6 +61,17 @@ IsInputIn task asked files input = IsOfFile task.source (reach task) (GivesRefus
 abbrev pub IsLoaded : Task → Asked → Option Files → ℕ → ℕ → Input → Type 0
 IsLoaded task asked files faults faults_after input = ((input ≡ inputs.Reported reports.ReadFault) × Rose faults faults_after)
     ⊎ ((faults_after ≡ faults) × IsInputIn task asked files input)
+
+-- what a text is read as: its certificate, or why it is none, unless memory runs out
+pub record IsReadAs (text : List ℕ) (read : Result Certificate CertError) : Type 0 where
+  pub ok : IfOk read (IsTextOf text)
+  pub each_ok : (certificate : Certificate) → IsTextOf text certificate → ReturnsOk (Memory alloc_error) certificate read
+  pub err : IfErr read (IsMemoryOr (Memory alloc_error) (IsNoText text))
+
+-- what the files of a check come to: the first is refused, or the text in the second is judged for its table
+abbrev pub IsJudgedOn : Task → Asked → Option Files → Report → Type 0
+IsJudgedOn task asked files report = IsOfFile task.source (reach task) (λ refusal. report ≡ reports.Refused refusal)
+    (λ table. IsJudgedIn task table files (judged_name asked) report) files (input_name asked)
 
 -- the numbers that are asked for are within their limits
 pub record IsTaskInRange (task : Task) : Type 0 where

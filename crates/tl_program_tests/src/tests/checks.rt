@@ -55,13 +55,17 @@ pub const CLOSED: &str =
 /// The command line that `CLOSED` is valid for, over `TWO`.
 pub const LINE: &str = "check 12 t.html c.txt --budget 6";
 
-/// Checks that each certificate is rejected with its message, for `LINE` over `TWO`.
+/// `LINE` with workers, which read the file and its certificate at one time.
+const WORKED: &str = "check 12 t.html c.txt --budget 6 --workers 2";
+
+/// Checks that each certificate is rejected with its message, for `LINE` over `TWO` without and with workers.
 fn check_rejected(
     rt: &(impl Abort + AllocGlobal + Threads + Sync),
     cases: &[(&str, &str)],
 ) -> Result<(), Failure> {
     for &(certificate, message) in cases {
         check(rt, LINE, TWO, Some(certificate), 10, message)?;
+        check(rt, WORKED, TWO, Some(certificate), 10, message)?;
     }
     Ok(())
 }
@@ -69,7 +73,8 @@ fn check_rejected(
 #[test]
 fn a_valid_certificate_is_accepted(rt: HostRuntime) -> Result<(), Failure> {
     let message = "lowest height 2 width 10\n";
-    check(&rt, LINE, TWO, Some(CLOSED), 0, message)
+    check(&rt, LINE, TWO, Some(CLOSED), 0, message)?;
+    check(&rt, WORKED, TWO, Some(CLOSED), 0, message)
 }
 
 #[test]
@@ -345,34 +350,30 @@ fn a_certificate_for_something_else_is_rejected(rt: HostRuntime) -> Result<(), F
 }
 
 #[test]
-fn a_file_is_refused_before_its_certificate_is_read(rt: HostRuntime) -> Result<(), Failure> {
-    let line = "check 12 t.html c.txt";
-    check(
-        &rt,
-        line,
-        "x<table></table>",
-        None,
-        5,
-        "bad input: stray text at 0\n",
-    )?;
-    let nested = "<table><tr><td><table><tr><td>a</table></table>";
-    check(
-        &rt,
-        "check 80 t.html c.txt --budget 100000",
-        nested,
-        Some(CLOSED),
-        6,
-        "limit: reach 8100000\n",
-    )?;
-    check(&rt, line, TWO, None, 7, "read fault\n")?;
-    check(
-        &rt,
-        "check 12 u.html c.txt",
-        TWO,
-        Some(CLOSED),
-        7,
-        "read fault\n",
-    )
+fn what_is_wrong_with_a_file_is_told_before_its_certificate(
+    rt: HostRuntime,
+) -> Result<(), Failure> {
+    let stray = ("x<table></table>", 5, "bad input: stray text at 0\n");
+    let far = "<table><tr><td><table><tr><td>a</table></table>";
+    let fault = (TWO, 7, "read fault\n");
+    for options in ["--budget 100000", "--budget 100000 --workers 2"] {
+        for (names, certificate, (file, status, message)) in [
+            ("t.html c.txt", None, stray),
+            ("t.html c.txt", Some("no certificate"), stray),
+            (
+                "t.html c.txt",
+                Some(CLOSED),
+                (far, 6, "limit: reach 8100000\n"),
+            ),
+            ("t.html c.txt", None, (far, 6, "limit: reach 8100000\n")),
+            ("t.html c.txt", None, fault),
+            ("u.html c.txt", Some(CLOSED), fault),
+        ] {
+            let line = format!(in rt.alloc(); "check 80 {names} {options}")?;
+            check(&rt, line.as_str(), file, certificate, status, message)?;
+        }
+    }
+    Ok(())
 }
 
 #[test]

@@ -322,6 +322,10 @@ const CHECKED: Run<'static> = Run {
 const CHECKS: &[Run<'static>] = &[
     CHECKED,
     Run {
+        line: "check 12 t.html c.txt --budget 6 --workers 2",
+        ..CHECKED
+    },
+    Run {
         line: "check 12 t.html c.txt --budget 0",
         certificate: "tablelayout 1 12 plain 0\nbounded 3 2\nsection 0 12 3 2 0 1\nwidths 3 2\nz0 chain\nend\n",
         status: 3,

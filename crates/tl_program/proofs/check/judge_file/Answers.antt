@@ -6,6 +6,7 @@ use Rattle.tl_base.specs.Desk.{IsReadFrom, Rose}
 use Rattle.tl_program.specs.declared.report.Report.TheVariants as reports
 use Rattle.tl_program.specs.Checks.{IsJudged}
 use Rattle.tl_program.proofs.Checking.{judged_file}
+use Rattle.tl_program.proofs.Judging.{judged_text}
 use Rattle.tl_program.proofs.check.judge_file.Goals as goal
 
 pub returns-clause-report : goal.returns-clause-report
@@ -17,5 +18,6 @@ returns-clause-report g c =
     c.in-Some.is c.in_ok-text.ensures.short)
     (subst (λ (found : Option (List ℕ)). IfSome found (λ bytes. IfSome files
     (λ held. IsReadFrom held c.args.name.now MAX_CERTIFICATE_BYTES bytes))) c.in-Some.is c.in_ok-text.ensures.read)
-    (subst (λ (text : List ℕ). IfOk c.judge.result (IsJudged c.args.task.now c.args.table.now text))
-    c.as_slice.ensures c.judge.ensures)
+    (subst (λ (text : List ℕ). IfOk c.judge.result (IsJudged c.args.task.now c.args.table.now text)) c.as_slice.ensures
+    (judged_text c.args.task.now c.args.table.now c.as_slice.result.now c.read-certificate.result c.judge.result
+    (record { ok = c.read-certificate.ensures.ok; each_ok = c.read-certificate.ensures.each_ok; err = c.read-certificate.ensures.err }) c.judge.ensures))
