@@ -1,10 +1,10 @@
 #!/usr/bin/env bash
 # How long `lay` and `check` take with 1, 2 and 4 workers: on 199 nested tables of 30 rows on 200 columns, and on a
-# document of small tables, 199 of one cell of two words. Each number is the middle one of five rounds, elapsed with the
-# start of the process; a round takes each number of workers in turn, since a machine's speed may change meanwhile. At
-# last four runs by one worker each at one time: what the machine gives four threads that share nothing. Builds the
-# program where it is missing. Fails where 2 workers are not 1.7 times as fast as one on the large tables, or 4 not 2.8
-# times; and where the small ones take 10 % longer with 4 than with one.
+# document of small tables, 199 of one cell of two words. A round takes each number of workers in turn, and compares
+# them, since a machine's speed may change meanwhile. Each number is the middle one of nine rounds; times are elapsed,
+# with the start of the process. At last four runs by one worker each at one time: what the machine gives four threads
+# that share nothing. Builds the program where it is missing. Fails where 2 workers are not 1.7 times as fast as one on
+# the large tables, or 4 not 2.8 times; and where the small ones take 10 % and 2 ms longer with 4 than with one.
 set -euo pipefail
 here=$(dirname "$(readlink -f "${BASH_SOURCE[0]}")")
 "$here/../tablelayout" lay 7 "$here/../examples/first.html" /dev/stdout >/dev/null
@@ -57,46 +57,53 @@ run_four() {
 begin() { begun=${EPOCHREALTIME/[.,]/}; }
 spent() { echo $(((${EPOCHREALTIME/[.,]/} - begun) / 1000)); }
 
-# Prints the middle one of five numbers.
-middle() {
-    sort -n "$1" | sed -n 3p
+# Reads rounds, each a line with the times of 1, 2 and 4 workers. Prints the middle time of each, and of the large
+# tables the middle of how many times as fast as one they were in a round. Fails where that is too little.
+report() {
+    awk -v command="$1" -v name="$2" '
+        function middle(list, count,    i, j, kept) {
+            for (i = 2; i <= count; i++) {
+                kept = list[i]
+                for (j = i; j > 1 && list[j - 1] > kept; j--) list[j] = list[j - 1]
+                list[j] = kept
+            }
+            return list[(count + 1) / 2]
+        }
+        { for (i = 1; i <= 3; i++) { time[i, NR] = $i; gain[i, NR] = $1 / ($i ? $i : 1) } }
+        END {
+            for (i = 1; i <= 3; i++) {
+                for (round = 1; round <= NR; round++) { times[round] = time[i, round]; gains[round] = gain[i, round] }
+                took[i] = middle(times, NR)
+                gained[i] = middle(gains, NR)
+                printf "%-5s %s, %d workers: %4d ms", command, name, 2 ^ (i - 1), took[i]
+                if (name == "large" && i > 1) printf ", %.2f times as fast as one", gained[i]
+                print ""
+            }
+            exit name == "large" ? gained[2] < 1.7 || gained[3] < 2.8 : took[3] > took[1] * 1.1 + 2
+        }'
 }
 
 failed=0
 for command in lay check; do
     for name in large small; do
-        rm -f "$files"/times.*
-        for _ in 1 2 3 4 5; do
+        for _ in 1 2 3 4 5 6 7 8 9; do
             for workers in 1 2 4; do
                 begin
                 run "$command" "$name" "$workers"
-                spent >>"$files/times.$workers"
+                echo -n "$(spent) "
             done
-        done
-        one=$(middle "$files/times.1")
-        for workers in 1 2 4; do
-            time=$(middle "$files/times.$workers")
-            printf '%-5s %s, %d workers: %4d ms' "$command" "$name" "$workers" "$time"
-            [ "$name$workers" = large1 ] || [ "$name" = small ] || awk -v one="$one" -v time="$time" 'BEGIN { printf ", %.2f times as fast as one", one / time }'
             echo
-            case $name$workers in
-                large2) [ $((one * 10)) -ge $((time * 17)) ] || failed=1 ;;
-                large4) [ $((one * 10)) -ge $((time * 28)) ] || failed=1 ;;
-                small4) [ $((time * 10)) -le $((one * 11 + 20)) ] || failed=1 ;;
-            esac
-        done
+        done | report "$command" "$name" || failed=1
     done
 done
 
-rm -f "$files"/times.*
-for _ in 1 2 3 4 5; do
+for _ in 1 2 3 4 5 6 7 8 9; do
     begin
     run check large 1
-    spent >>"$files/times.1"
+    one=$(spent)
     begin
     run_four
-    spent >>"$files/times.four"
-done
-awk -v one="$(middle "$files/times.1")" -v four="$(middle "$files/times.four")" \
-    'BEGIN { printf "four checks by one worker at one time: %d ms, where one takes %d: %.2f times as fast\n", four, one, 4 * one / four }'
+    echo "$one $(spent)"
+done | awk '{ printf "%.6f %d %d\n", 4 * $1 / $2, $1, $2 }' | sort -n | sed -n 5p |
+    awk '{ printf "four checks by one worker at one time: %d ms, where one takes %d: %.2f times as fast\n", $3, $2, $1 }'
 exit "$failed"
