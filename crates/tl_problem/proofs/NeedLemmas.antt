@@ -19,8 +19,9 @@ use Rattle.tl_problem.specs.Layouts.{WithinPage, GiveHigh}
 use Rattle.tl_problem.specs.Sound.{IsSound, IsSoundCell}
 use Rattle.tl_problem.specs.Bounds.{IsGreatestRoom, GiveLow}
 use Rattle.tl_base.specs.Sizes.{IsLeastTotal}
-use Rattle.tl_problem.specs.Placements.{AreLeast}
-use Rattle.tl_problem.specs.Tight.{KeepHigh}
+use Rattle.tl_problem.specs.declared.placed.Placed.{Placed}
+use Rattle.tl_problem.specs.Placements.{AreLeast, IsPlacement}
+use Rattle.tl_problem.specs.Tight.{KeepHigh, IsTight}
 use Rattle.tl_problem.specs.inner.Demands.{cell_at, GiveDemands, no_cell}
 use Rattle.tl_problem.specs.inner.Needs.{NeedHigh, NeedLow, NeedWidths, NeedLeast}
 use Rattle.tl_problem.proofs.Heights.{IsLowAt-from, IsLowAt-higher, IsLowAt-wider, height-from_low, height-from_first}
@@ -195,6 +196,33 @@ module _ (problem : ProblemModel) (sound : IsSound problem) where
   page-least demands widths need least = record {
     kind = page-give demands widths need least;
     earliest = λ other page place within. least.earliest other (give-page demands other need page) place within;
+  }
+
+  -- widths at which no cell is higher give each cell at least its least width
+  keep-least : (demands widths heights other : List ℕ) → NeedLeast problem demands → GiveHigh problem widths heights →
+      KeepHigh problem widths other → GiveDemands problem Columns demands other
+  keep-least demands widths heights other need give keep = record {
+    count = keep.columns;
+    cells = λ k within.
+        let cell = cell_at problem.cells k in
+        let is = sound-at k within in
+        let found = height-from_low cell.high (cell_height problem heights cell) (cell_width problem widths cell)
+        (give.cells k no_cell within) in
+        let from = low-first cell.high is.steps.1 found.0 (cell_width problem other cell) (keep.cells k no_cell within found.0 found.1)
+        in
+        omega (arith, need.each k within, from, is.same_least);
+  }
+
+  pub opening-tight : (demands : List ℕ) (opening : Placed) → NeedLeast problem demands →
+      AreLeast (gap_of problem.style) (GiveDemands problem Columns demands) opening.widths → IsPlacement problem opening →
+      IsTight problem opening
+  opening-tight demands opening need least placement = record {
+    columns = record {
+      kind = KeepHigh-itself problem opening.widths placement.page.columns;
+      earliest = λ other keep place within.
+          least.earliest other (keep-least demands opening.widths opening.heights other need placement.rows.kind keep) place within;
+    };
+    placement = placement;
   }
 
   -- and so are those of a tight placement

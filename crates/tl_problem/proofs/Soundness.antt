@@ -7,7 +7,6 @@ use Rattle.std.specs.Option.{IsSomeAnd}
 use Rattle.std.proofs.lemmas.Bool.{cases_eq, cases_lt}
 use Rattle.std.proofs.lemmas.List.{get_or-set_same, get_or-set_other, length-set, get_or-replicate, get_or_past, length-replicate}
 use Rattle.std.proofs.lemmas.Nat.{div-mul-add, mod-mul-add}
-use Rattle.tl_base.specs.declared.limits.TheConstants.{MAX_COLUMNS}
 use Rattle.tl_base.specs.Style.{gap_of, edge_of}
 use Rattle.tl_base.specs.declared.style.Style.{Style}
 use Rattle.tl_base.specs.declared.steps.Config.{Config}
@@ -18,8 +17,7 @@ use Rattle.tl_problem.specs.Problem.{ProblemModel, cell_width}
 use Rattle.tl_problem.specs.Layouts.{WithinPage}
 use Rattle.tl_problem.specs.inner.Demands.{cell_at, rises, no_cell}
 use Rattle.tl_problem.specs.inner.Least.{step_at}
-use Rattle.tl_problem.specs.declared.sound.TheConstants.{PAIRS, PLACES}
-use Rattle.tl_problem.specs.inner.Soundness.{IsNowhereAbove, FitsPageWidth, AreWidest, IsNextPlace, AreLeastPlaces}
+use Rattle.tl_problem.specs.inner.Soundness.{IsNowhereAbove, FitsPageWidth, AreWidest, IsNextPlace, IsOnPlaces, AreLeastPlaces}
 use Rattle.tl_problem.specs.inner.Spanning.{IsInGrid, slot_of}
 use Rattle.tl_problem.proofs.AreaSteps.{height-at-step, height-between}
 use Rattle.tl_problem.proofs.DemandLemmas.{rises-length, rises-sum}
@@ -137,28 +135,28 @@ none-everywhere n k = elim (cases_lt k n) [
   | inr past ↦ get_or_past (nones n) k None (omega (arith, length-replicate {A = Option ℕ} n None, past))
 ]
 
-pub grid-few : (cells : List Cell) (cols : ℕ) → cols ≤ MAX_COLUMNS → All (IsInGrid cols) cells → All (IsInGrid MAX_COLUMNS) cells
-grid-few cells cols few grid k d within = let in_grid = grid k d within in (in_grid.0, omega (arith, in_grid.1, few))
+pub grid-places : (side : ℕ) (cells : List Cell) (cols : ℕ) → cols < side → All (IsInGrid cols) cells → All (IsOnPlaces side) cells
+grid-places side cells cols few grid k d within = let in_grid = grid k d within in (in_grid.0, omega (arith, in_grid.1, few))
 
-slot-parts : (left right : ℕ) (cell : Cell) → right < PLACES → cell.right < PLACES →
-    slot_of PLACES cell ≡ left * PLACES + right → (cell.left ≡ left) × (cell.right ≡ right)
-slot-parts left right cell within inside same = (
-  sym (div-mul-add cell.left PLACES cell.right inside) ∙ ap (λ n. n / PLACES) same ∙ div-mul-add left PLACES right within,
-  sym (mod-mul-add cell.left PLACES cell.right inside) ∙ ap (λ n. n % PLACES) same ∙ mod-mul-add left PLACES right within,
+slot-parts : (side left right : ℕ) (cell : Cell) → right < side → cell.right < side →
+    slot_of side cell ≡ left * side + right → (cell.left ≡ left) × (cell.right ≡ right)
+slot-parts side left right cell within inside same = (
+  sym (div-mul-add cell.left side cell.right inside) ∙ ap (λ n. n / side) same ∙ div-mul-add left side right within,
+  sym (mod-mul-add cell.left side cell.right inside) ∙ ap (λ n. n % side) same ∙ mod-mul-add left side right within,
 )
 
-module _ (cells : List Cell) where
-  pub widest-none : (widest : List (Option ℕ)) → length widest ≡ PAIRS → ((pair : ℕ) → get_or widest pair None ≡ None) →
-      AreWidest cells 0 widest
+module _ (side : ℕ) (cells : List Cell) where
+  pub widest-none : (widest : List (Option ℕ)) → length widest ≡ side * side → ((pair : ℕ) → get_or widest pair None ≡ None) →
+      AreWidest side cells 0 widest
   widest-none widest size clear = record {
     size = size;
     all = λ k below. absurd (omega arith);
     some = λ pair w is. let both : None ≡ Some w = sym (clear pair) ∙ is in absurd (cc);
   }
 
-  module _ (k : ℕ) (widest : List (Option ℕ)) (h : AreWidest cells k widest) where
+  module _ (k : ℕ) (widest : List (Option ℕ)) (h : AreWidest side cells k widest) where
     abbrev here : ℕ
-    here = slot_of PLACES (cell_at cells k)
+    here = slot_of side (cell_at cells k)
 
     abbrev wide : ℕ
     wide = first_width (cell_at cells k).low
@@ -169,10 +167,10 @@ module _ (cells : List Cell) where
     abbrev after : List (Option ℕ)
     after = set widest here (Some (max (unwrap_or before 0) wide))
 
-    pub widest-more : here < PAIRS → AreWidest cells (k + 1) after
+    pub widest-more : here < side * side → AreWidest side cells (k + 1) after
     widest-more inside = record {
       size = length-set widest here (Some (max (unwrap_or before 0) wide)) ∙ h.size;
-      all = λ j below. all j below (cases_eq (slot_of PLACES (cell_at cells j)) here) (cases_eq j k);
+      all = λ j below. all j below (cases_eq (slot_of side (cell_at cells j)) here) (cases_eq j k);
       some = λ pair w is. some pair w is (cases_eq pair here);
     } where
       new : get_or after here None ≡ Some (max (unwrap_or before 0) wide)
@@ -185,23 +183,23 @@ module _ (cells : List Cell) where
       at_most None w none = absurd none
       at_most (Some v) w is = is
 
-      all : (j : ℕ) → j < k + 1 → (slot_of PLACES (cell_at cells j) ≡ here) ⊎ (slot_of PLACES (cell_at cells j) ≢ here) →
+      all : (j : ℕ) → j < k + 1 → (slot_of side (cell_at cells j) ≡ here) ⊎ (slot_of side (cell_at cells j) ≢ here) →
           (j ≡ k) ⊎ (j ≢ k) →
-          IsSomeAnd (get_or after (slot_of PLACES (cell_at cells j)) None) (λ w. first_width (cell_at cells j).low ≤ w)
+          IsSomeAnd (get_or after (slot_of side (cell_at cells j)) None) (λ w. first_width (cell_at cells j).low ≤ w)
       all j below (inl same) (inl last) = rw (same, new) (omega (arith, ap (λ i. first_width (cell_at cells i).low) last))
       all j below (inl same) (inr earlier) = rw (same, new) (omega (
         arith,
         at_most before (first_width (cell_at cells j).low) (rw same at (h.all j (omega arith))),
       ))
-      all j below (inr apart) (inl last) = absurd (apart (ap (λ i. slot_of PLACES (cell_at cells i)) last))
-      all j below (inr apart) (inr earlier) = rw (old (slot_of PLACES (cell_at cells j)) apart) (h.all j (omega arith))
+      all j below (inr apart) (inl last) = absurd (apart (ap (λ i. slot_of side (cell_at cells i)) last))
+      all j below (inr apart) (inr earlier) = rw (old (slot_of side (cell_at cells j)) apart) (h.all j (omega arith))
 
       given : (o : Option ℕ) → 0 < unwrap_or o 0 → o ≡ Some (unwrap_or o 0)
       given None some = absurd (omega arith)
       given (Some v) some = refl
 
       some : (pair w : ℕ) → get_or after pair None ≡ Some w → (pair ≡ here) ⊎ (pair ≢ here) →
-          (j : ℕ) × ((j < k + 1) × ((slot_of PLACES (cell_at cells j) ≡ pair) × (first_width (cell_at cells j).low ≡ w)))
+          (j : ℕ) × ((j < k + 1) × ((slot_of side (cell_at cells j) ≡ pair) × (first_width (cell_at cells j).low ≡ w)))
       some pair w is (inr apart) =
           let found = h.some pair w (sym (old pair apart) ∙ is) in
           (found.0, (omega (arith, found.1.0), found.1.1))
@@ -218,20 +216,20 @@ module _ (cells : List Cell) where
 
 -- ---- the place of the next column, one column after another
 
-module _ (gap : ℕ) (cells : List Cell) (inside : All (IsInGrid MAX_COLUMNS) cells) (widest : List (Option ℕ))
-    (are : AreWidest cells (length cells) widest)
-    (left : ℕ) (places : List ℕ) (column place : ℕ) (within : column < MAX_COLUMNS)
+module _ (side gap : ℕ) (cells : List Cell) (inside : All (IsOnPlaces side) cells) (widest : List (Option ℕ))
+    (are : AreWidest side cells (length cells) widest)
+    (left : ℕ) (places : List ℕ) (column place : ℕ) (within : column + 1 < side)
     (next : IsNextPlace gap cells left places column place) where
   abbrev pair : ℕ
-  pair = left * PLACES + (column + 1)
+  pair = left * side + (column + 1)
 
   pub next-skip : get_or widest pair None ≡ None → IsNextPlace gap cells (left + 1) places column place
   next-skip clear = record {
     gaps = next.gaps;
     rooms = λ k below up ends. elim (cases_eq (cell_at cells k).left left) [
       | inl same ↦
-          let at : slot_of PLACES (cell_at cells k) ≡ pair =
-          ap (λ l. l * PLACES + (cell_at cells k).right) same ∙ ap (λ r. left * PLACES + r) ends in
+          let at : slot_of side (cell_at cells k) ≡ pair =
+          ap (λ l. l * side + (cell_at cells k).right) same ∙ ap (λ r. left * side + r) ends in
           absurd (rw (at, clear) at (are.all k below))
       | inr apart ↦ next.rooms k below (omega arith) ends
     ];
@@ -244,8 +242,8 @@ module _ (gap : ℕ) (cells : List Cell) (inside : All (IsInGrid MAX_COLUMNS) ce
     gaps = omega (arith, next.gaps);
     rooms = λ k below up ends. elim (cases_eq (cell_at cells k).left left) [
       | inl same ↦
-          let at : slot_of PLACES (cell_at cells k) ≡ pair =
-          ap (λ l. l * PLACES + (cell_at cells k).right) same ∙ ap (λ r. left * PLACES + r) ends in
+          let at : slot_of side (cell_at cells k) ≡ pair =
+          ap (λ l. l * side + (cell_at cells k).right) same ∙ ap (λ r. left * side + r) ends in
           let wide : first_width (cell_at cells k).low ≤ least = rw (at, is) at (are.all k below) in
           omega (arith, wide, ap (λ l. get_or places l 0) same)
       | inr apart ↦ omega (arith, next.rooms k below (omega arith) ends)
@@ -258,8 +256,7 @@ module _ (gap : ℕ) (cells : List Cell) (inside : All (IsInGrid MAX_COLUMNS) ce
       | inl later ↦
           let one = are.some pair least is in
           let in_grid = inside one.0 no_cell one.1.0 in
-          let parts = slot-parts left (column + 1) (cell_at cells one.0) (omega (arith, within)) (omega (arith, in_grid.1))
-          one.1.1.0 in
+          let parts = slot-parts side left (column + 1) (cell_at cells one.0) within in_grid.1 one.1.1.0 in
           inr (one.0, (one.1.0, (parts.1, omega (arith, later, one.1.1.1, ap (λ l. get_or places l 0) parts.0))))
     ];
   }

@@ -30,15 +30,14 @@ impl Problem {
     }
 
     /// The area bound of the zone, which no layout in the zone is lower than. `None` exactly where no
-    /// widths lie in the zone. Constraints that a caller added to the work do not matter, and stay. No
-    /// memory is taken.
+    /// widths lie in the zone. Constraints that a caller added to the work do not matter, and the work is
+    /// afterwards as it was. No memory is taken.
     pub fn area_of(&self, zone: &Zone, work: &mut Work) -> Option<u32>
         requires zone { IsZone self.now zone.now }
         requires work { IsWorkOf self.now work.old }
         ensures bound { MatchOption result (HasNoWidths (InZone self.now zone.now))
             (IsAreaBound self.now (InZone self.now zone.now)) }
-        ensures work_of { IsWorkOf self.now work.new }
-        ensures matrix { work.new.matrix ≡ work.old.matrix }
+        ensures same { work.new ≡ work.old }
     {
         work.start.mark();
         let bound = if add_ranges(self, zone, &mut work.start) {

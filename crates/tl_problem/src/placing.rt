@@ -7,7 +7,7 @@ ghost use Rattle.tl_problem.specs.Placements.{HasNoLower, IsOpening, IsPlacement
 ghost use Rattle.tl_base.specs.Sizes.{IsLeastTotal, room};
 ghost use Rattle.tl_base.specs.Style.{edge_of, row_gap_of};
 ghost use Rattle.tl_problem.specs.Sound.{IsSound};
-ghost use Rattle.tl_problem.specs.Tight.{IsTightFrom};
+ghost use Rattle.tl_problem.specs.Tight.{IsTight, IsTightFrom};
 ghost use Rattle.tl_problem.specs.Works.{IsWorkOf};
 ghost use Rattle.tl_problem.specs.inner.Needs.{NeedHigh, NeedLeast, NeedWidths};
 
@@ -62,9 +62,10 @@ impl Problem {
         Ok(Some(placed))
     }
 
-    /// The placement at the least positions of all widths within the page.
+    /// The placement at the least positions of all widths within the page. It is tight.
     pub fn opening(&self) -> Result<Placed, AllocError>
-        ensures { IfOk result (IsOpening self.now) }
+        ensures opening { IfOk result (IsOpening self.now) }
+        ensures tight { IfOk result (IsTight self.now) }
     {
         let cells = self.cells();
         let demands = least_needs(self, cells)?;

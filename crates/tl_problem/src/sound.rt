@@ -1,15 +1,15 @@
 //! The test for a sound problem.
 
-ghost use Rattle.std.specs.Prelude.{◌≡◌, ℕ, ◌+◌, ◌<◌, ◌≤◌, ◌↔◌, List, length, get_or, sum_by, None, IfNone, IfSome, IsTrue};
+ghost use Rattle.std.specs.Prelude.{◌≡◌, ℕ, ◌+◌, ◌*◌, ◌<◌, ◌≤◌, ◌↔◌, List, length, get_or, sum_by, None, IfNone, IfSome, IsTrue};
 ghost use Rattle.std.specs.List.{All, Any};
 ghost use Rattle.tl_base.specs.declared.limits.TheConstants.{MAX_COLUMNS};
 ghost use Rattle.tl_base.specs.Steps.{AreSteps, IsLowAt, first_height};
 ghost use Rattle.tl_problem.specs.declared.cell.Cell.{Cell};
-ghost use Rattle.tl_problem.specs.declared.sound.TheConstants.{PAIRS, PLACES};
+ghost use Rattle.tl_problem.specs.declared.sound.TheConstants.{PLACES};
 ghost use Rattle.tl_problem.specs.Layouts.{WithinPage};
 ghost use Rattle.tl_problem.specs.Sound.{IsSound, IsSoundCell, ShareSlot};
 ghost use Rattle.tl_problem.specs.inner.Axes.{start_of};
-ghost use Rattle.tl_problem.specs.inner.Soundness.{AreByTop, AreSeparate, AreWidest, BeginsNowhere, EachBegins, FitsPageWidth, IsNextPlace};
+ghost use Rattle.tl_problem.specs.inner.Soundness.{AreByTop, AreSeparate, AreWidest, BeginsNowhere, EachBegins, FitsPageWidth, IsNextPlace, IsOnPlaces};
 ghost use Rattle.tl_problem.specs.inner.Soundness.{IsNowhereAbove, IsSeparate, grid};
 ghost use Rattle.tl_problem.specs.inner.Spanning.{IsInGrid};
 
@@ -20,8 +20,8 @@ use tl_base::{Config, MAX_COLUMNS, MAX_HEIGHT, MAX_PAGE_WIDTH, MAX_ROWS, Steps, 
 /// The places of columns: where each begins, and where the last one ends.
 const PLACES: usize = MAX_COLUMNS + 1;
 
-/// Two places of columns each, row by row.
-const PAIRS: usize = PLACES * PLACES;
+/// The places of the columns of a table of few columns, as most are.
+const FEW_PLACES: usize = 9;
 
 impl Problem {
     /// Whether these are a sound problem's columns, rows, style, width and cells, so that
@@ -219,12 +219,37 @@ fn fits(cols: u32, style: Style, width: u32, cells: &[Cell]) -> bool
     requires grid { All (IsInGrid cols) cells.now }
     ensures { IsTrue result ↔ FitsPageWidth cols style width cells.now }
 {
+    // To clear room for all pairs of places takes longer than all else here where columns are few.
+    if (cols as usize) < FEW_PLACES {
+        let mut widest = [None; FEW_PLACES * FEW_PLACES];
+        return fits_between(cols, style, width, cells, FEW_PLACES, &mut widest);
+    }
+    let mut widest = [None; PLACES * PLACES];
+    fits_between(cols, style, width, cells, PLACES, &mut widest)
+}
+
+/// Whether some widths are within the page. `widest` is room for each two of `side` places, and clear.
+fn fits_between(
+    cols: u32,
+    style: Style,
+    width: u32,
+    cells: &[Cell],
+    side: usize,
+    widest: &mut [Option<u32>],
+) -> bool
+    requires few { cols < side }
+    requires side { side ≤ PLACES }
+    requires narrow { width ≤ MAX_PAGE_WIDTH }
+    requires grid { All (IsInGrid cols) cells.now }
+    requires size { length widest.old ≡ side * side }
+    requires clear { (pair : ℕ) → get_or widest.old pair None ≡ None }
+    ensures { IsTrue result ↔ FitsPageWidth cols style width cells.now }
+{
     let end = width + style.gap();
-    let mut widest = [None; PAIRS];
-    find_widest(cells, &mut widest);
+    find_widest(cells, side, widest);
     let mut places = [0; PLACES];
     for column in 0..cols as usize {
-        let place = next_place(&widest, style.gap(), &places, column);
+        let place = next_place(widest, side, style.gap(), &places, column);
         if place > u64::from(end) {
             return false;
         }
@@ -236,17 +261,18 @@ fn fits(cols: u32, style: Style, width: u32, cells: &[Cell]) -> bool
     places[cols as usize] + 2 * style.edge() <= end
 }
 
-/// Writes for each two places of columns the greatest least width of the cells between them, and leaves
-/// `None` where there is none.
-fn find_widest(cells: &[Cell], widest: &mut [Option<u32>])
-    requires grid { All (IsInGrid MAX_COLUMNS) cells.now }
-    requires size { length widest.old ≡ PAIRS }
+/// Writes for each two of `side` places of columns the greatest least width of the cells between them, and
+/// leaves `None` where there is none.
+fn find_widest(cells: &[Cell], side: usize, widest: &mut [Option<u32>])
+    requires grid { All (IsOnPlaces side) cells.now }
+    requires side { side ≤ PLACES }
+    requires size { length widest.old ≡ side * side }
     requires clear { (pair : ℕ) → get_or widest.old pair None ≡ None }
-    ensures { AreWidest cells.now (length cells.now) widest.new }
+    ensures { AreWidest side cells.now (length cells.now) widest.new }
 {
     for number in 0..cells.len() {
         let cell = &cells[number];
-        let pair = cell.left as usize * PLACES + cell.right as usize;
+        let pair = cell.left as usize * side + cell.right as usize;
         let before = widest[pair].unwrap_or(0);
         widest[pair] = Some(before.max(cell.low.least()));
     }
@@ -254,17 +280,18 @@ fn find_widest(cells: &[Cell], widest: &mut [Option<u32>])
 
 /// The least place for the column after this one: a gap past this column's place, and past each cell
 /// that ends there. It is that of any cells whose greatest least widths these are.
-fn next_place(widest: &[Option<u32>], gap: u32, places: &[u32], column: usize) -> u64
-    requires inside { column < MAX_COLUMNS }
-    requires pairs { length widest.now ≡ PAIRS }
+fn next_place(widest: &[Option<u32>], side: usize, gap: u32, places: &[u32], column: usize) -> u64
+    requires inside { column + 1 < side }
+    requires side { side ≤ PLACES }
+    requires pairs { length widest.now ≡ side * side }
     requires places { length places.now ≡ PLACES }
     requires small { gap ≤ 2 }
-    ensures { (cells : List Cell) → All (IsInGrid MAX_COLUMNS) cells → AreWidest cells (length cells) widest.now →
+    ensures { (cells : List Cell) → All (IsOnPlaces side) cells → AreWidest side cells (length cells) widest.now →
         IsNextPlace gap cells (column + 1) places.now column result }
 {
     let mut place = u64::from(places[column]) + u64::from(gap);
     for left in 0..column + 1 {
-        if let Some(least) = widest[left * PLACES + column + 1] {
+        if let Some(least) = widest[left * side + column + 1] {
             place = place.max(u64::from(places[left]) + u64::from(least) + u64::from(gap));
         }
     }

@@ -1,5 +1,5 @@
 -- What the parts of the test for a sound problem find; no public clause cites this file.
-use Rattle.std.specs.Prelude.{◌≡◌, ℕ, ◌+◌, ◌<◌, ◌≤◌, ◌⊎◌, List, [], length, get_or, Option, Some, None}
+use Rattle.std.specs.Prelude.{◌≡◌, ℕ, ◌+◌, ◌*◌, ◌<◌, ◌≤◌, ◌⊎◌, List, [], length, get_or, Option, Some, None}
 use Rattle.std.specs.List.{AllPairs, Any}
 use Rattle.std.specs.Option.{IsSomeAnd}
 use Rattle.tl_base.specs.declared.style.Style.{Style}
@@ -13,7 +13,6 @@ use Rattle.tl_problem.specs.Problem.{ProblemModel}
 use Rattle.tl_problem.specs.Layouts.{WithinPage}
 use Rattle.tl_problem.specs.Sound.{ShareSlot}
 use Rattle.tl_problem.specs.inner.Axes.{start_of}
-use Rattle.tl_problem.specs.declared.sound.TheConstants.{PAIRS, PLACES}
 use Rattle.tl_problem.specs.inner.Demands.{cell_at}
 use Rattle.tl_problem.specs.inner.Spanning.{slot_of}
 
@@ -56,13 +55,18 @@ FitsPageWidth cols style width cells = (widths : List ℕ)
 abbrev pub IsPastRoom : ℕ → List ℕ → Cell → ℕ → Type 0
 IsPastRoom gap places cell place = get_or places cell.left 0 + first_width cell.low + gap ≤ place
 
--- for each two places of columns, row by row, the greatest least width of the first cells, up to a number, between them
-pub record AreWidest (cells : List Cell) (upto : ℕ) (widest : List (Option ℕ)) : Type 0 where
-  pub size : length widest ≡ PAIRS
+-- the cell begins at one of so many places of columns, and ends at a later one
+abbrev pub IsOnPlaces : ℕ → Cell → Type 0
+IsOnPlaces side cell = (cell.left < cell.right) × (cell.right < side)
+
+-- for each two of so many places of columns, row by row, the greatest least width of the first cells, up to a number,
+-- between them
+pub record AreWidest (side : ℕ) (cells : List Cell) (upto : ℕ) (widest : List (Option ℕ)) : Type 0 where
+  pub size : length widest ≡ side * side
   pub all : (k : ℕ) → k < upto →
-      IsSomeAnd (get_or widest (slot_of PLACES (cell_at cells k)) None) (λ w. first_width (cell_at cells k).low ≤ w)
+      IsSomeAnd (get_or widest (slot_of side (cell_at cells k)) None) (λ w. first_width (cell_at cells k).low ≤ w)
   pub some : (pair w : ℕ) → get_or widest pair None ≡ Some w →
-      (k : ℕ) × ((k < upto) × ((slot_of PLACES (cell_at cells k) ≡ pair) × (first_width (cell_at cells k).low ≡ w)))
+      (k : ℕ) × ((k < upto) × ((slot_of side (cell_at cells k) ≡ pair) × (first_width (cell_at cells k).low ≡ w)))
 
 -- the least place for the column after this one, by the places before it and the cells that begin in the first columns, up
 -- to one

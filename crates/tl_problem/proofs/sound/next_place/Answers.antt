@@ -1,6 +1,5 @@
 -- Where cells stand between a place and the next column, the widest of them may move the column; elsewhere none does.
 use Rattle.std.proofs.Common.{◌≡◌, ◌+◌, ◌*◌, max, get_or, None, Some, arith, inl}
-use Rattle.tl_problem.specs.declared.sound.TheConstants.{PLACES}
 use Rattle.tl_problem.proofs.Soundness.{next-skip, next-more}
 use Rattle.tl_problem.proofs.sound.next_place.Goals as goal
 use Rattle.tl_problem.proofs.sound.next_place.Goals.{in-Some, in_default}
@@ -18,11 +17,11 @@ loop-left-preserved c = λ cells grid are.
     let column = c.args.column in
     let widest = c.args.widest.now in
     let before = c.loop-left.invariant cells grid are in
-    let pair : left * PLACES + (column + 1) ≡ left * PLACES + column + 1 = omega arith in
+    let pair : left * c.args.side + (column + 1) ≡ left * c.args.side + column + 1 = omega arith in
     elim c.match-widest-left.branch [
       | in-Some w ↦
-          let is : get_or widest (left * PLACES + (column + 1)) None ≡ Some w.in-Some.least = rw pair w.in-Some.is in
-          let more = next-more c.args.gap cells grid widest are left c.args.places.now column c.loop-left.place c.requires.inside
+          let is : get_or widest (left * c.args.side + (column + 1)) None ≡ Some w.in-Some.least = rw pair w.in-Some.is in
+          let more = next-more c.args.side c.args.gap cells grid widest are left c.args.places.now column c.loop-left.place c.requires.inside
           before w.in-Some.least is in
           let new : c.match-widest-left.place ≡ max c.loop-left.place (get_or c.args.places.now left 0 + w.in-Some.least
           + c.args.gap) =
@@ -36,9 +35,9 @@ loop-left-preserved c = λ cells grid are.
           ) in
           rw new more
       | in_default w ↦
-          let clear : get_or widest (left * PLACES + (column + 1)) None ≡ None = rw pair w.in_default.is in
+          let clear : get_or widest (left * c.args.side + (column + 1)) None ≡ None = rw pair w.in_default.is in
           rw w.place-is
-          (next-skip c.args.gap cells grid widest are left c.args.places.now column c.loop-left.place c.requires.inside before clear)
+          (next-skip c.args.side c.args.gap cells grid widest are left c.args.places.now column c.loop-left.place c.requires.inside before clear)
     ]
 
 pub returns : goal.returns

@@ -1,6 +1,7 @@
 -- The least positions for the least widths are those of all widths within the page.
 use Rattle.std.proofs.Common.{arith}
-use Rattle.tl_problem.proofs.NeedLemmas.{page-give, page-least, least-sum}
+use Rattle.tl_problem.specs.Placements.{IsOpening}
+use Rattle.tl_problem.proofs.NeedLemmas.{page-give, page-least, least-sum, opening-tight}
 use Rattle.tl_problem.proofs.problem.Problem.opening.Goals as goal
 
 pub least_sizes-requires-clause-fits : goal.least_sizes-requires-clause-fits
@@ -14,12 +15,20 @@ place_under-requires c =
     c.in_ok-demands.ensures
     (rw c.deref.ensures.value at c.in_ok-widths.ensures.least))
 
-pub returns : goal.returns
-returns c =
+pub returns-clause-opening : goal.returns-clause-opening
+returns-clause-opening c =
     let least = page-least c.args.self.now c.cells-cells.ensures.sound c.in_ok-demands.demands.items c.in_ok-widths.widths
     c.in_ok-demands.ensures
     (rw c.deref.ensures.value at c.in_ok-widths.ensures.least) in
-    record {
+    let is : IsOpening c.args.self.now c.in_ok-placed.placed = record {
       columns = rw (c.in_ok-placed.ensures.1, c.as_slice.ensures) least;
       placement = c.in_ok-placed.ensures.0;
-    }
+    } in
+    is
+
+pub returns-clause-tight : goal.returns-clause-tight
+returns-clause-tight c =
+    opening-tight c.args.self.now c.cells-cells.ensures.sound c.in_ok-demands.demands.items c.in_ok-placed.placed
+    c.in_ok-demands.ensures
+    (rw (c.in_ok-placed.ensures.1, c.as_slice.ensures) (rw c.deref.ensures.value at c.in_ok-widths.ensures.least))
+    c.in_ok-placed.ensures.0
