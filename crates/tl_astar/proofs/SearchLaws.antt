@@ -154,7 +154,6 @@ pub search-popped : (problem : ProblemModel) (search : Search) (opens : OpenZone
     HaveBounds problem search.arena.trace (heap_items opens.heap) → IsSearchOf problem (record search { opens = opens })
 search-popped problem search opens is bounds = record {
   arena = is.arena;
-  work = is.work;
   bounds = bounds;
   same_steps = is.same_steps;
   order = is.order;
@@ -241,6 +240,12 @@ module _ (problem : ProblemModel) (A B : Arena) (is : IsArenaOf problem A) (also
       (arena-keen problem is.work.sound A is) (found-or_none problem A is)
       (subst (λ t. (z : ℕ) → IsZoneOf t z → HasBoundOrNone problem t z) longer (found-or_none problem B also))))
 
+-- the search whose arena was asked and is as it was
+pub search-asked : (problem : ProblemModel) (search : Search) (arena : Arena) → IsSearchOf problem search → arena ≡ search.arena →
+    IsSearchOf problem (record search { arena = arena })
+search-asked problem search arena is same =
+    subst (λ (a : Arena). IsSearchOf problem (record search { arena = a })) (sym same) is
+
 -- the search once a placement was offered to its arena
 pub search-offered : (problem : ProblemModel) (search : Search) (arena : Arena) → IsSearchOf problem search →
     IsArenaOf problem arena →
@@ -248,7 +253,6 @@ pub search-offered : (problem : ProblemModel) (search : Search) (arena : Arena) 
     IsSearchOf problem (record search { arena = arena })
 search-offered problem search arena is offered trace less = record {
   arena = offered;
-  work = is.work;
   bounds = subst (λ t. HaveBounds problem t (heap_items search.opens.heap)) (sym trace) is.bounds;
   same_steps = is.same_steps;
   order = subst (λ t. KeepsBoundOrder problem t arena.best.height) (sym trace)

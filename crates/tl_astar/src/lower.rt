@@ -2,7 +2,6 @@
 
 ghost use Rattle.std.specs.Prelude.{◌≡◌, ◌⊎◌, ℕ, ◌+◌, ◌*◌, ◌<◌, ◌≤◌, length, get_or, IfOk};
 ghost use Rattle.tl_problem.specs.Placements.{IsOpening};
-ghost use Rattle.tl_problem.specs.Works.{IsWorkOf};
 ghost use Rattle.tl_cert.specs.declared.trace.CutAt.{CutAt};
 ghost use Rattle.tl_cert.specs.Traces.{IsZoneOf};
 ghost use Rattle.tl_solve.specs.Arenas.{IsArenaOf};
@@ -15,7 +14,7 @@ use crate::search::Search;
 use std::alloc::{AllocError, Global};
 use tl_base::MAX_BUDGET;
 use tl_cert::Trace;
-use tl_problem::{Problem, Work};
+use tl_problem::Problem;
 use tl_solve::{Arena, Outcome};
 
 impl Search {
@@ -30,7 +29,7 @@ impl Search {
         ensures solved { IfOk result (IsSolverOutcome problem.now budget) }
     {
         let stands = uncut_zones(self.alloc, self.arena.trace())?;
-        let lower = least_proved(problem, &self.arena, &mut self.work, &stands);
+        let lower = least_proved(problem, &mut self.arena, &stands);
         let arena = self.into_arena();
         let found = arena.finish_at(problem, budget, lower)?;
         Ok(found)
@@ -52,36 +51,35 @@ fn uncut_zones(alloc: Global, trace: &Trace) -> Result<Vec<bool>, AllocError>
 }
 
 /// The least of the best height and of what the zones that stand prove.
-fn least_proved(problem: &Problem, arena: &Arena, work: &mut Work, stands: &[bool]) -> u32
-    requires arena { IsArenaOf problem.now arena.now }
-    requires work { IsWorkOf problem.now work.old }
-    requires stands { AreUncut arena.now.trace (length arena.now.trace) stands.now }
-    ensures { IsProvedUpto problem.now arena.now.trace arena.now.best.height (length stands.now) result }
+fn least_proved(problem: &Problem, arena: &mut Arena, stands: &[bool]) -> u32
+    requires arena { IsArenaOf problem.now arena.old }
+    requires stands { AreUncut arena.old.trace (length arena.old.trace) stands.now }
+    ensures same { arena.new ≡ arena.old }
+    ensures proved { IsProvedUpto problem.now arena.old.trace arena.old.best.height (length stands.now) result }
 {
     let mut least = arena.best().height;
     for zone in 0..stands.len() {
         if stands[zone] {
-            least = lessened(problem, arena, work, zone, least);
+            least = lessened(problem, arena, zone as u32, least);
         }
     }
     least
 }
 
 /// The number, or the greater of the zone's bound and area bound where that is less.
-fn lessened(problem: &Problem, arena: &Arena, work: &mut Work, zone: usize, least: u32) -> u32
-    requires arena { IsArenaOf problem.now arena.now }
-    requires work { IsWorkOf problem.now work.old }
-    requires there { IsZoneOf arena.now.trace zone }
-    ensures work { IsWorkOf problem.now work.new }
-    ensures lessened { IsLessened problem.now arena.now.trace zone least result }
+fn lessened(problem: &Problem, arena: &mut Arena, zone: u32, least: u32) -> u32
+    requires arena { IsArenaOf problem.now arena.old }
+    requires there { IsZoneOf arena.old.trace zone }
+    ensures same { arena.new ≡ arena.old }
+    ensures lessened { IsLessened problem.now arena.old.trace zone least result }
 {
-    let Some(bound) = arena.bounds()[zone] else {
+    let Some(bound) = arena.bounds()[zone as usize] else {
         return least;
     };
     if bound >= least {
         return least;
     }
-    match problem.area_of(&arena.zones()[zone], work) {
+    match arena.area_of(problem, zone) {
         None => least,
         Some(area) => least.min(bound.max(area)),
     }

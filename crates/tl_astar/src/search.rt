@@ -5,7 +5,6 @@ ghost use Rattle.std.specs.BinaryHeap.{heap_items, heap_len};
 ghost use Rattle.tl_base.specs.declared.limits.TheConstants.{MAX_BUDGET};
 ghost use Rattle.tl_problem.specs.Bounds.{HasNoWidths};
 ghost use Rattle.tl_problem.specs.Placements.{IsOpening};
-ghost use Rattle.tl_problem.specs.Works.{IsWorkOf};
 ghost use Rattle.tl_problem.specs.Zones.{whole_zone, InZone};
 ghost use Rattle.tl_cert.specs.Traces.{IsCut, IsZoneOf, zone_of};
 ghost use Rattle.tl_cert.specs.Worked.{IsBoundOf};
@@ -24,14 +23,13 @@ use crate::whole::Whole;
 use std::alloc::{AllocError, Global};
 use tl_base::MAX_BUDGET;
 use tl_cert::CutAt;
-use tl_problem::{Problem, Work};
+use tl_problem::Problem;
 use tl_solve::Arena;
 
 /// The zones that a search has made of a problem, and those of them that may still be cut.
 pub(crate) struct Search {
     pub(crate) alloc: Global,
     pub(crate) arena: Arena,
-    pub(crate) work: Work,
     pub(crate) opens: OpenZones,
     /// Whether each cell has the same steps by `low` and by `high`: only then an area bound closes a zone.
     pub(crate) same_steps: bool,
@@ -46,7 +44,6 @@ impl Drop for Search {
         let Search {
             alloc: _alloc,
             arena: _arena,
-            work: _work,
             opens: _opens,
             same_steps: _same_steps,
             shape: _shape,
@@ -65,14 +62,12 @@ impl Search {
         ensures opening { IfOk result (λ search. IsOpening problem.now search.arena.best) }
     {
         let arena = Arena::open(alloc, problem)?;
-        let work = Work::new(problem)?;
         let shape = Shape::new(alloc, problem)?;
         let whole = Whole::new(alloc, &shape, problem.cells())?;
         let opens = OpenZones::new(alloc);
         let mut search = Search {
             alloc,
             arena,
-            work,
             opens,
             same_steps: have_same_steps(problem),
             shape,
@@ -87,7 +82,6 @@ impl Search {
     fn add(&mut self, zone: u32) -> Result<(), AllocError>
         requires { zone < length self.old.arena.bounds.items }
         ensures arena { self.new.arena ≡ self.old.arena }
-        ensures work { self.new.work ≡ self.old.work }
         ensures same_steps { self.new.same_steps ≡ self.old.same_steps }
         ensures added { OnOk result (IsAdded zone (get_or self.old.arena.bounds.items zone None)
             (heap_items self.old.opens.heap) (heap_items self.new.opens.heap)) }
@@ -137,7 +131,7 @@ impl Search {
             HasAreaBelow problem.now self.old.arena.trace zone self.old.arena.best.height) }
     {
         let cut = self.arena.first_cut(problem, zone)?;
-        if self.same_steps && is_area_enough(problem, &self.arena, &mut self.work, zone) {
+        if self.same_steps && is_area_enough(problem, &mut self.arena, zone) {
             return None;
         }
         Some(cut)
@@ -199,7 +193,6 @@ impl Search {
         let Search {
             alloc: _,
             arena,
-            work: _work,
             opens: _opens,
             same_steps: _,
             shape: _shape,
@@ -211,16 +204,15 @@ impl Search {
 }
 
 /// Whether the area bound of the zone is at least the best height.
-fn is_area_enough(problem: &Problem, arena: &Arena, work: &mut Work, zone: u32) -> bool
-    requires arena { IsArenaOf problem.now arena.now }
-    requires work { IsWorkOf problem.now work.old }
-    requires there { IsZoneOf arena.now.trace zone }
-    ensures work { IsWorkOf problem.now work.new }
-    ensures area { IsTrue result → HasAreaFrom problem.now (zone_of problem.now arena.now.trace zone) arena.now.best.height }
-    ensures below { result ≡ false → HasNoWidths (InZone problem.now (zone_of problem.now arena.now.trace zone))
-        ⊎ HasAreaBelow problem.now arena.now.trace zone arena.now.best.height }
+fn is_area_enough(problem: &Problem, arena: &mut Arena, zone: u32) -> bool
+    requires arena { IsArenaOf problem.now arena.old }
+    requires there { IsZoneOf arena.old.trace zone }
+    ensures same { arena.new ≡ arena.old }
+    ensures area { IsTrue result → HasAreaFrom problem.now (zone_of problem.now arena.old.trace zone) arena.old.best.height }
+    ensures below { result ≡ false → HasNoWidths (InZone problem.now (zone_of problem.now arena.old.trace zone))
+        ⊎ HasAreaBelow problem.now arena.old.trace zone arena.old.best.height }
 {
-    match problem.area_of(&arena.zones()[zone as usize], work) {
+    match arena.area_of(problem, zone) {
         Some(area) => area >= arena.best().height,
         None => false,
     }

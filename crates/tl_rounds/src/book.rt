@@ -75,9 +75,7 @@ impl<'a> Book<'a> {
         ensures left { IfOk result (λ book. book.lefts ≡ 0 ∷ []) }
         ensures opening { IfOk result (λ book. IsOpening problem.now book.best) }
     {
-        let opening = problem.opening()?;
-        // The opening is tight: making it so gives it again.
-        let best = problem.tight(&opening)?;
+        let best = problem.opening()?;
         Book::new(alloc, problem, best)
     }
 

@@ -14,7 +14,7 @@ use Rattle.tl_problem.specs.Zones.{whole_zone, IsZone, InZone, lower_part, upper
 use Rattle.tl_problem.specs.Bounds.{HasNoWidths, IsBound}
 use Rattle.tl_problem.specs.Layouts.{GiveHigh}
 use Rattle.tl_problem.specs.Placements.{AreLeast, HasNoLower, IsPlacement, IsPlacementIn, IsOpening}
-use Rattle.tl_problem.specs.Tight.{IsTightFrom, IsTight}
+use Rattle.tl_problem.specs.Tight.{IsTight}
 use Rattle.tl_problem.specs.Works.{IsWorkOf}
 use Rattle.tl_problem.proofs.BoundLaws.{bound-below_placement}
 use Rattle.tl_problem.proofs.SetLaws.{opening-in_whole, bound-within}
@@ -25,7 +25,6 @@ use Rattle.tl_cert.specs.Traces.{with_parts, zones_of, zone_of, IsZoneOf, IsCut,
 use Rattle.tl_cert.proofs.TraceLaws.{zone-old, zone-lower, zone-upper, zone-cases, cuts-there, zones-are, zones-push, trace-push}
 use Rattle.tl_solve.specs.declared.arena.Arena.{Arena}
 use Rattle.tl_solve.specs.Arenas.{IsBoundFound, AreBoundsOf, HasBoundBelow, IsLookedAt, IsKnownFor, IsLowered, IsArenaOf}
-use Rattle.tl_solve.proofs.Opening.{tight-opening, opening-is_tight}
 use Rattle.tl_solve.proofs.ZoneLists.{zones-count, zone-item, found-more}
 
 -- a lower placement is below what the old one was
@@ -125,29 +124,25 @@ module _ (problem : ProblemModel) (sound : IsSound problem) where
         subst (λ n. IsBoundFound problem (zone_of problem [] n) (get_or (found ∷ []) n d)) (sym first) is;
   }
 
-  pub arena-opened : (arena : Arena) (opening : Placed) (found : Option ℕ) → IsOpening problem opening →
-      IsTightFrom problem opening.widths arena.best →
+  pub arena-opened : (arena : Arena) (found : Option ℕ) → IsOpening problem arena.best → IsTight problem arena.best →
       IsWorkOf problem arena.work → arena.trace ≡ [] →
       arena.zones.items ≡ whole_zone problem ∷ [] → arena.bounds.items ≡ found ∷ [] →
       IsBoundFound problem (whole_zone problem) found →
-      arena.opening ≡ opening.height → IsArenaOf problem arena
-  arena-opened arena opening found is made work none zones bounds bound height =
-      let same = tight-opening problem opening arena.best is made in
-      record {
-        work = work;
-        trace_of = subst (IsTraceOf problem) (sym none) (λ i d within. absurd (omega (arith, within)));
-        few = omega (arith, ap length none);
-        zones = zones ∙ ap (zones_of (whole_zone problem)) (sym none);
-        bounds = subst (λ t. AreBoundsOf problem t arena.bounds.items) (sym none)
-            (subst (AreBoundsOf problem []) (sym bounds) (open-bounds found bound));
-        cut_zones = subst (λ t. All (λ cut. HasBoundBelow problem t cut.zone arena.opening) t) (sym none)
-            (All-nil (λ (cut : CutAt). HasBoundBelow problem [] cut.zone arena.opening));
-        opening = (opening, is, sym height, inl same);
-        tight = opening-is_tight problem opening arena.best is made;
-        looked = subst (λ t. (z : ℕ) → IsZoneOf t z → IsLookedAt problem (zone_of problem t z) arena.best.height) (sym none)
-            (subst (λ (p : Placed). (z : ℕ) → IsZoneOf [] z → IsLookedAt problem (zone_of problem [] z) p.height) (sym same)
-            (open-looked opening is));
-      }
+      arena.opening ≡ arena.best.height → IsArenaOf problem arena
+  arena-opened arena found is tight work none zones bounds bound height = record {
+    work = work;
+    trace_of = subst (IsTraceOf problem) (sym none) (λ i d within. absurd (omega (arith, within)));
+    few = omega (arith, ap length none);
+    zones = zones ∙ ap (zones_of (whole_zone problem)) (sym none);
+    bounds = subst (λ t. AreBoundsOf problem t arena.bounds.items) (sym none)
+        (subst (AreBoundsOf problem []) (sym bounds) (open-bounds found bound));
+    cut_zones = subst (λ t. All (λ cut. HasBoundBelow problem t cut.zone arena.opening) t) (sym none)
+        (All-nil (λ (cut : CutAt). HasBoundBelow problem [] cut.zone arena.opening));
+    opening = (arena.best, is, sym height, inl refl);
+    tight = tight;
+    looked = subst (λ t. (z : ℕ) → IsZoneOf t z → IsLookedAt problem (zone_of problem t z) arena.best.height) (sym none)
+        (open-looked arena.best is);
+  }
 
 -- ---- after a further cut
 

@@ -1,11 +1,13 @@
 //! The zones of a search by their numbers, with what every search keeps of them: the cuts, the bound of
 //! each zone and the best placement. It knows no order in which zones are cut.
 
-ghost use Rattle.std.specs.Prelude.{◌≡◌, ◌+◌, ◌<◌, ◌≤◌, ◌++◌, [], ◌∷◌, length, IfOk, OnOk, IfNone, IfSome};
+ghost use Rattle.std.specs.Prelude.{◌≡◌, ◌+◌, ◌<◌, ◌≤◌, ◌++◌, [], ◌∷◌, length, IfOk, OnOk, IfNone, IfSome, MatchOption};
 ghost use Rattle.tl_base.specs.declared.limits.TheConstants.{MAX_BUDGET};
 ghost use Rattle.tl_problem.specs.Agreement.{HasOneClass};
+ghost use Rattle.tl_problem.specs.Areas.{IsAreaBound};
+ghost use Rattle.tl_problem.specs.Bounds.{HasNoWidths};
 ghost use Rattle.tl_problem.specs.Placements.{IsOpening, IsPlacement};
-ghost use Rattle.tl_problem.specs.Zones.{whole_zone, IsFirstOpen};
+ghost use Rattle.tl_problem.specs.Zones.{whole_zone, InZone, IsFirstOpen};
 ghost use Rattle.tl_cert.specs.Traces.{IsCut, IsZoneOf, zone_of};
 ghost use Rattle.tl_cert.specs.Worked.{IsClosedZone};
 ghost use Rattle.tl_solve.specs.Arenas.{HasBoundBelow, IsArenaOf, IsLowered};
@@ -53,9 +55,7 @@ impl Arena {
         ensures no_cut { IfOk result (λ arena. arena.trace ≡ []) }
         ensures opening { IfOk result (λ arena. IsOpening problem.now arena.best) }
     {
-        let opening = problem.opening()?;
-        // The opening is tight: making it so gives it again.
-        let best = problem.tight(&opening)?;
+        let best = problem.opening()?;
         let mut work = Work::new(problem)?;
         let whole = problem.whole()?;
         let bound = problem.bound_of(&whole, &mut work);
@@ -69,7 +69,7 @@ impl Arena {
             zones,
             bounds,
             trace: Trace::new(alloc),
-            opening: opening.height,
+            opening: best.height,
             best,
         })
     }
@@ -108,6 +108,18 @@ impl Arena {
         ensures { result.now ≡ self.now.trace }
     {
         &self.trace
+    }
+
+    /// The area bound of the zone with this number, which no layout in the zone is lower than. `None` exactly
+    /// where no widths lie in the zone. No memory is taken.
+    pub fn area_of(&mut self, problem: &Problem, zone: u32) -> Option<u32>
+        requires arena { IsArenaOf problem.now self.old }
+        requires there { IsZoneOf self.old.trace zone }
+        ensures area { MatchOption result (HasNoWidths (InZone problem.now (zone_of problem.now self.old.trace zone)))
+            (IsAreaBound problem.now (InZone problem.now (zone_of problem.now self.old.trace zone))) }
+        ensures same { self.new ≡ self.old }
+    {
+        problem.area_of(&self.zones[zone as usize], &mut self.work)
     }
 
     /// The cut of the zone's first span of more than one class, after the first of them. `None` where

@@ -3,7 +3,6 @@ use Rattle.std.specs.Prelude.{IsTrue, ◌↔◌, ℕ, List, map}
 use Rattle.std.specs.BinaryHeap.{heap_items}
 use Rattle.std.specs.List.{All}
 use Rattle.tl_problem.specs.Problem.{ProblemModel}
-use Rattle.tl_problem.specs.Works.{IsWorkOf}
 use Rattle.tl_cert.specs.declared.trace.CutAt.{CutAt}
 use Rattle.tl_cert.specs.Worked.{IsBoundOf}
 use Rattle.tl_solve.specs.Arenas.{IsArenaOf}
@@ -20,11 +19,10 @@ open_zones search = map zone_in (heap_items search.opens.heap)
 abbrev pub HaveBounds : ProblemModel → List CutAt → List HeapEntry → Type 0
 HaveBounds problem trace entries = All (λ e. IsBoundOf problem trace (zone_in e) (bound_in e)) entries
 
--- the search is one of this problem: its arena and its work are, its open zones have their bounds, it knows whether each
+-- the search is one of this problem: its arena is, its open zones have their bounds, it knows whether each
 -- cell has the same steps by `low` and by `high`, and its cuts keep their order
 pub record IsSearchOf (problem : ProblemModel) (search : Search) : Type 0 where
   pub arena : IsArenaOf problem search.arena
-  pub work : IsWorkOf problem search.work
   pub bounds : HaveBounds problem search.arena.trace (heap_items search.opens.heap)
   pub same_steps : IsTrue search.same_steps ↔ HaveSameSteps problem
   pub order : KeepsBoundOrder problem search.arena.trace search.arena.best.height

@@ -1,6 +1,5 @@
 use Rattle.std.proofs.Common.{◌∷◌, [], IsTrue, ◌↔◌, length, get_or, map, None, sym, subst, ap, arith}
 use Rattle.std.specs.BinaryHeap.{heap_items}
-use Rattle.tl_problem.specs.Works.{IsWorkOf}
 use Rattle.tl_solve.specs.declared.arena.Arena.{Arena}
 use Rattle.tl_solve.specs.Arenas.{IsArenaOf}
 use Rattle.tl_astar.specs.Best.{HaveSameSteps}
@@ -21,7 +20,6 @@ returns-clause-search c =
     let found = c.in_ok-arena.ensures.arena.bounds in
     record {
       arena = subst (IsArenaOf p) (sym same) c.in_ok-arena.ensures.arena;
-      work = subst (IsWorkOf p) (sym c.in_ok-add.ensures.work) c.in_ok-work.ensures.page.work_of;
       bounds = subst (λ (a : Arena). HaveBounds p a.trace new) (sym same)
           (added-bounds p arena.trace 0 (get_or arena.bounds.items 0 None) (heap_items c.new-opens.result.heap)
           new c.in_ok-add.ensures.added

@@ -1,6 +1,5 @@
 use Rattle.std.proofs.Common.{◌≡◌, ◌+◌, ◌*◌, IsTrue, ◌↔◌, length, get_or, map, None, sym, ◌∙◌, subst}
 use Rattle.std.specs.BinaryHeap.{heap_items}
-use Rattle.tl_problem.specs.Works.{IsWorkOf}
 use Rattle.tl_solve.specs.declared.arena.Arena.{Arena}
 use Rattle.tl_solve.specs.Arenas.{IsArenaOf}
 use Rattle.tl_solve.proofs.ArenaLaws.{lowered-le}
@@ -22,7 +21,6 @@ returns-clause-search c =
     let mid = heap_items c.add.new.self.opens.heap in
     let new = heap_items c.add-2.new.self.opens.heap in
     let same : c.add-2.new.self.arena ≡ B = c.in_ok-add-2.ensures.arena ∙ c.in_ok-add.ensures.arena in
-    let work = c.in_ok-add-2.ensures.work ∙ c.in_ok-add.ensures.work in
     let same_steps = c.in_ok-add-2.ensures.same_steps ∙ c.in_ok-add.ensures.same_steps in
     let less = lowered-le A.best B.best c.in_ok-cut.ensures.lowered in
     let first : IsAdded (2 * length A.trace + 1) (get_or B.bounds.items (2 * length A.trace + 1) None) old mid =
@@ -36,7 +34,6 @@ returns-clause-search c =
     let least = c.requires.least below.0 below.1 in
     record {
       arena = subst (IsArenaOf p) (sym same) c.in_ok-cut.ensures.arena;
-      work = subst (IsWorkOf p) (sym work) is.work;
       bounds = subst (λ (a : Arena). HaveBounds p a.trace new) (sym same)
           (cut-bounds p A B is.arena c.in_ok-cut.ensures.arena c.args.cut c.requires.cut c.in_ok-cut.ensures.trace less old mid
           new first second

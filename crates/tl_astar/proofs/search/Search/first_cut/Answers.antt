@@ -1,6 +1,7 @@
 use Rattle.std.proofs.Common.{IsTrue, false, inl, inr, sym, subst, rules}
 use Rattle.tl_base.proofs.Options.{if_none}
 use Rattle.tl_astar.specs.inner.Searches.{IsSearchOf}
+use Rattle.tl_astar.proofs.SearchLaws.{search-asked}
 use Rattle.tl_astar.proofs.search.Search.first_cut.Goals.{else-self-via-then-self+else-is_area_enough, else-self-via-else-self}
 use Rattle.tl_astar.proofs.search.Search.first_cut.Goals as goal
 
@@ -14,17 +15,16 @@ pub returns-then-is_area_enough-clause-shut : goal.returns-then-is_area_enough-c
 returns-then-is_area_enough-clause-shut c =
     inr (c.requires.search.same_steps.0 (search rules), c.if-is_area_enough.ensures.area (search rules))
 
+pub returns-then-is_area_enough-clause-search : goal.returns-then-is_area_enough-clause-search
+returns-then-is_area_enough-clause-search c =
+    search-asked c.args.problem.now c.args.self.now c.is_area_enough.new.arena c.requires.search c.is_area_enough.ensures.same
+
 pub returns-clause-search : goal.returns-clause-search
 returns-clause-search c =
     let is = c.requires.search in
     elim c.else-self.branch [
-      | else-self-via-then-self+else-is_area_enough w ↦ subst (IsSearchOf c.args.problem.now) (sym w.self-is) (record {
-        arena = is.arena;
-        work = w.is_area_enough.ensures.work;
-        bounds = is.bounds;
-        same_steps = is.same_steps;
-        order = is.order;
-      })
+      | else-self-via-then-self+else-is_area_enough w ↦ subst (IsSearchOf c.args.problem.now) (sym w.self-is)
+          (search-asked c.args.problem.now c.args.self.now _ is w.is_area_enough.ensures.same)
       | else-self-via-else-self w ↦ subst (IsSearchOf c.args.problem.now) (sym w.self-is) is
     ]
 

@@ -12,5 +12,5 @@ returns-clause-book c =
       few = omega (arith, ap length c.new.ensures);
       covering = subst (λ trace. IsCovering p trace c.in_ok-lefts.lefts c.args.best) (sym c.new.ensures)
           (subst (λ lefts. IsCovering p [] lefts c.args.best) (sym c.in_ok-lefts.ensures)
-          (opened p sound c.in_ok-_opening._opening c.args.best c.in_ok-_opening.ensures c.requires.tight c.requires.low));
+          (opened p sound c.in_ok-_opening._opening c.args.best c.in_ok-_opening.ensures.opening c.requires.tight c.requires.low));
     }
