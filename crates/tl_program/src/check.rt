@@ -73,12 +73,12 @@ fn judge<R: Threads + Sync, G: Gate>(
     task: &Task,
     table: &Table,
     budget: u32,
-    certificate: Result<Certificate, CertError>,
+    certificate: &Result<Certificate, CertError>,
     gate: &G,
 ) -> Result<Report, AllocError>
     requires usable { IsUsableTable task.now table.now budget }
-    requires written { IfOk certificate IsWritable }
-    ensures { IfOk result (λ report. (text : List ℕ) → IsReadAs text certificate
+    requires written { IfOk certificate.now IsWritable }
+    ensures { IfOk result (λ report. (text : List ℕ) → IsReadAs text certificate.now
         → IsJudged task.now table.now text report) }
 {
     let certificate = match certificate {
@@ -93,7 +93,7 @@ fn judge<R: Threads + Sync, G: Gate>(
         task.width,
         budget,
         task.workers,
-        &certificate,
+        certificate,
         gate,
     ) {
         Ok(_) => {
@@ -102,7 +102,7 @@ fn judge<R: Threads + Sync, G: Gate>(
             narrow_is_too_wide();
             budget_closes();
             open_spends();
-            Ok(shown(task, &certificate))
+            Ok(shown(task, certificate))
         }
         Err(reject) => rejected(step_rejection(reject)),
     }
@@ -131,7 +131,7 @@ fn judge_file<R: Threads + Sync, D: Desk, G: Gate>(
         return Ok(Report::ReadFault);
     };
     let certificate = read(alloc, text.as_slice());
-    judge(rt, alloc, task, table, budget, certificate, gate)
+    judge(rt, alloc, task, table, budget, &certificate, gate)
 }
 
 /// Reads a file of these bytes and the text of a certificate at one time.
@@ -172,10 +172,17 @@ fn judge_both<R: Threads + Sync, G: Gate>(
     let (input, certificate) = read_both(rt, alloc, task, bytes, text);
     match input? {
         Input::Table { table, budget } => {
-            judge(rt, alloc, task, &table, budget, certificate, gate)
+            let report = judge(rt, alloc, task, &table, budget, &certificate, gate);
+            give_back(rt, table, certificate);
+            report
         }
         Input::Reported(report) => Ok(report),
     }
+}
+
+/// Gives back the memory of a table and of what its certificate was read as, at one time.
+fn give_back<R: Threads>(rt: &R, table: Table, certificate: Result<Certificate, CertError>) {
+    thread::join(rt, move || drop(table), move || drop(certificate));
 }
 
 /// What a file of these bytes comes to where that of its certificate could not be read.

@@ -33,13 +33,13 @@ pub enum Rejection {
 }
 
 /// Why bytes are no certificate, or `None` where memory ran out.
-pub fn text_rejection(error: CertError) -> Option<Rejection>
-    ensures { result ≡ text_rejection error }
+pub fn text_rejection(error: &CertError) -> Option<Rejection>
+    ensures { result ≡ text_rejection error.now }
 {
     match error {
         CertError::Memory(_) => None,
-        CertError::Syntax(place) => Some(Rejection::Syntax(place)),
-        CertError::Range(place) => Some(Rejection::Range(place)),
+        CertError::Syntax(place) => Some(Rejection::Syntax(*place)),
+        CertError::Range(place) => Some(Rejection::Range(*place)),
         CertError::TooLong => Some(Rejection::TooLong),
     }
 }

@@ -40,8 +40,8 @@ returns-in-Ok-verify g c = λ text read.
     c.open_spends.ensures text c.shown.result
     (subst (λ (read : Result Certificate CertError). IfOk read (IsTextOf text)) c.in-Ok.is read.ok) c.shown.ensures
 
-pub returns : goal.returns
-returns g c =
+pub returns-in-Err-verify : goal.returns-in-Err-verify
+returns-in-Err-verify g c =
     let task = c.args.task.now in
     let table = c.args.table.now in
     let certificate = c.in-Ok.certificate in
