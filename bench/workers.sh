@@ -1,10 +1,11 @@
 #!/usr/bin/env bash
 # How long `lay` and `check` take with 1, 2 and 4 workers: on 199 nested tables of 30 rows on 200 columns, and on a
-# document of small tables, 199 of one cell of two words. A round takes each number of workers in turn, and compares
-# them, since a machine's speed may change meanwhile. Each number is the middle one of nine rounds; times are elapsed,
-# with the start of the process. At last four runs by one worker each at one time: what the machine gives four threads
-# that share nothing. Builds the program where it is missing. Fails where 2 workers are not 1.7 times as fast as one on
-# the large tables, or 4 not 2.8 times; and where the small ones take 10 % and 2 ms longer with 4 than with one.
+# document of small tables, 199 of one cell of two words. A round takes both commands on both files by each number of
+# workers in turn, and compares these, since a machine's speed may change meanwhile. Each number is the middle one of 21
+# rounds; times are elapsed, with the start of the process. At last, nine times, four runs by one worker each at one
+# time: what the machine gives four threads that share nothing. Builds the program where it is missing. Fails where 2
+# workers are not 1.7 times as fast as one on the large tables, or 4 not 2.8 times; and where the small ones take 10 %
+# and 2 ms longer with 4 than with one.
 set -euo pipefail
 here=$(dirname "$(readlink -f "${BASH_SOURCE[0]}")")
 "$here/../tablelayout" lay 7 "$here/../examples/first.html" /dev/stdout >/dev/null
@@ -83,18 +84,25 @@ report() {
         }'
 }
 
+# The milliseconds that one of both commands takes on one of the files by 1, 2 and 4 workers, on a line.
+times() {
+    local workers
+    for workers in 1 2 4; do
+        begin
+        run "$1" "$2" "$workers"
+        echo -n "$(spent) "
+    done
+    echo
+}
+
+for _ in $(seq 21); do
+    for command in lay check; do
+        for name in large small; do times "$command" "$name" >>"$files/$command.$name"; done
+    done
+done
 failed=0
 for command in lay check; do
-    for name in large small; do
-        for _ in 1 2 3 4 5 6 7 8 9; do
-            for workers in 1 2 4; do
-                begin
-                run "$command" "$name" "$workers"
-                echo -n "$(spent) "
-            done
-            echo
-        done | report "$command" "$name" || failed=1
-    done
+    for name in large small; do report "$command" "$name" <"$files/$command.$name" || failed=1; done
 done
 
 for _ in 1 2 3 4 5 6 7 8 9; do
