@@ -19,7 +19,6 @@ pub struct Fail {
 
 /// A desk in memory, for tests: it tells all that it holds, and fails at just the calls that it
 /// was asked to fail at, and at loads of missing files.
-#[derive(Drop)]
 pub struct MemoryDesk {
     alloc: Global,
     files: BTreeMap<String, List<u8>>,
@@ -28,6 +27,20 @@ pub struct MemoryDesk {
     calls: u32,
     load_faults: u64,
     write_faults: u64,
+}
+
+impl Drop for MemoryDesk {
+    fn drop(self) {
+        let MemoryDesk {
+            alloc: _alloc,
+            files: _files,
+            said: _said,
+            fails: _fails,
+            calls: _calls,
+            load_faults: _load_faults,
+            write_faults: _write_faults,
+        } = self;
+    }
 }
 
 impl MemoryDesk {

@@ -49,5 +49,6 @@ returns-clause-besides c =
     let proved = subst (λ n. IsProvedUpto p arena.trace arena.best.height n least) all c.least_proved-lower.ensures.proved in
     best-outcome p is.arena.work.sound c.args.budget arena is.arena least proved is.order c.requires.shown c.requires.ended
     c.in_ok-found.found
-    (rw (c.into_arena-arena.ensures, c.least_proved-lower.ensures.same) at c.in_ok-found.ensures.best) (rw (c.into_arena-arena.ensures, c.least_proved-lower.ensures.same) at c.in_ok-found.ensures.trace)
+    (rw (c.into_arena-arena.ensures, c.least_proved-lower.ensures.same) at c.in_ok-found.ensures.best)
+    (rw (c.into_arena-arena.ensures, c.least_proved-lower.ensures.same) at c.in_ok-found.ensures.trace)
     c.in_ok-found.ensures.lower c.in_ok-found.ensures.lines
