@@ -70,8 +70,14 @@ fi
 all_of tablelayout uninstall "$to" | expect_text $'usage\nstatus 2' "by uninstall without a checkout"
 mv "$room/away" "$checkout"
 
-# Installed a second time, it is still removed with each folder that was made for it.
+# Installed a second time, over what an earlier version left, it is still removed with each folder that was made for it.
+touch "$to/libexec/tablelayout/tl_program"
 all_of "$checkout/tablelayout" install "$to/" | expect_text "status 0" "by a second install"
+names "$to/libexec/tablelayout" | expect_text "folders
+place.awk
+record.awk
+show
+tablelayout" "over an earlier version"
 all_of "$checkout/tablelayout" uninstall "$to" | expect_text "status 0" "by uninstall"
 names "$to" | expect_text "" "and left"
 all_of "$checkout/tablelayout" uninstall "$to" | expect_text "tablelayout: it is not installed in $to
