@@ -1,12 +1,13 @@
 //! Searches of problems that were counted by hand, and of tables that were drawn at random.
 
-ghost use Rattle.std.specs.Prelude.{◌+◌, ◌<◌, ◌^◌};
+ghost use Rattle.std.specs.Prelude.{◌+◌, ◌<◌, ◌≤◌, ◌^◌};
+ghost use Rattle.tl_base.specs.declared.limits.TheConstants.{MAX_BUDGET};
 
 use std::alloc::Global;
 use std::test::Fail;
 use tl_base::{Config, List, MAX_BUDGET, Steps, Style};
 use tl_branch::Learn;
-use tl_cert::{Bound, End, Log, Nogood, Side};
+use tl_cert::{Bound, CutAt, End, Log, Nogood, Side};
 use tl_check::Checker;
 use tl_problem::{Cell, Problem};
 use tl_solve::{Outcome, Plain, Solver};
@@ -101,14 +102,20 @@ fn numbers(outcome: &Outcome) -> (u32, u32, usize) {
     (outcome.best.height, outcome.lower, outcome.trace.len())
 }
 
-/// Whether the line with this number has these bounds written out, fires these lines and ends so.
-fn is_line(log: &Log, number: usize, bounds: &[Bound], fires: &[u32], end: End) -> bool {
-    match log.as_slice().get(number) {
-        Some(line) => has_bounds(&line.nogood, bounds)
-            && line.fires.as_slice() == fires
-            && line.end == end,
-        None => false,
-    }
+/// The cut of a zone at a span, after this class.
+pub(crate) fn cut_at(zone: u32, span: u32, class: u32) -> CutAt {
+    CutAt { zone, span, class }
+}
+
+/// A log line: the bounds that are written out, the lines that it fires, and its end.
+type Line<'a> = (&'a [Bound], &'a [u32], End);
+
+/// Whether the log has these lines and no others.
+fn has_lines(log: &Log, wanted: &[Line<'_>]) -> bool {
+    log.len() == wanted.len()
+        && log.as_slice().iter().zip(wanted).all(|(line, &(bounds, fires, end))| {
+            has_bounds(&line.nogood, bounds) && line.fires.as_slice() == fires && line.end == end
+        })
 }
 
 /// Whether the nogood has these bounds written out, or is zone 0 where there are none.
@@ -149,68 +156,106 @@ fn is_accepted(alloc: Global, problem: &Problem, outcome: &Outcome) -> Result<bo
     Ok(found.is_ok())
 }
 
+/// What a search comes to: the height of its best placement, the lower bound, the number of cuts, and whether
+/// the checker accepts its log.
+#[derive(Clone, Copy, Debug, PartialEq, Eq)]
+struct Found {
+    height: u32,
+    lower: u32,
+    cuts: usize,
+    is_accepted: bool,
+}
+
+/// Searches the problem with this budget.
+fn search(alloc: Global, learn: &mut Learn, problem: &Problem, budget: u32) -> Result<Found, Fail>
+    requires { budget ≤ MAX_BUDGET }
+{
+    let outcome = learn.solve(problem, budget)?;
+    let (height, lower, cuts) = numbers(&outcome);
+    let is_accepted = is_accepted(alloc, problem, &outcome)?;
+    Ok(Found {
+        height,
+        lower,
+        cuts,
+        is_accepted,
+    })
+}
+
 // The opening has four lines. Three would need both long cells in one line, which does not fit: the third
 // cut parts the third column, and both lines together leave no bound.
 #[test]
 fn two_rows_close_after_three_cuts(rt: HostRuntime) -> Result<(), Fail> {
-    let alloc = rt.alloc();
-    let problem = two_rows(alloc)?;
-    let mut learn = Learn::new(alloc);
-    let outcome = learn.solve(&problem, 3)?;
-    assert_eq!(rt; numbers(&outcome), (4, 4, 3));
-    assert_eq!(rt; outcome.best.width, 16);
-    let cuts = outcome.trace.as_slice();
-    assert_eq!(rt; cuts.len(), 3);
-    assert_eq!(rt; (cuts[0].zone, cuts[0].span, cuts[0].class), (0, 0, 0));
-    assert_eq!(rt; (cuts[1].zone, cuts[1].span, cuts[1].class), (1, 1, 0));
-    assert_eq!(rt; (cuts[2].zone, cuts[2].span, cuts[2].class), (3, 2, 0));
-    assert_eq!(rt; outcome.log.len(), 3);
-    assert!(rt; is_line(&outcome.log, 0, &[at_most(2, 8)], &[], End::Chain));
-    assert!(rt; is_line(&outcome.log, 1, &[at_least(2, 9)], &[], End::Chain));
-    assert!(rt; is_line(&outcome.log, 2, &[], &[0, 1], End::Fired));
+    let problem = two_rows(rt.alloc())?;
+    let outcome = Learn::new(rt.alloc()).solve(&problem, 3)?;
+    assert_eq!(rt; (numbers(&outcome), outcome.best.width), ((4, 4, 3), 16));
+    assert_eq!(rt;
+        outcome.trace.as_slice(),
+        [cut_at(0, 0, 0), cut_at(1, 1, 0), cut_at(3, 2, 0)].as_slice()
+    );
+    let lines: &[Line<'_>] = &[
+        (&[at_most(2, 8)], &[], End::Chain),
+        (&[at_least(2, 9)], &[], End::Chain),
+        (&[], &[0, 1], End::Fired),
+    ];
+    assert!(rt; has_lines(&outcome.log, lines));
     Ok(())
 }
 
 #[test]
 fn two_rows_are_searched_with_each_budget(rt: HostRuntime) -> Result<(), Fail> {
-    let alloc = rt.alloc();
-    let problem = two_rows(alloc)?;
-    let mut learn = Learn::new(alloc);
+    let problem = two_rows(rt.alloc())?;
+    let mut learn = Learn::new(rt.alloc());
     for budget in 0..17u32 {
-        let outcome = learn.solve(&problem, budget)?;
-        let lower = if budget < 3 { 3 } else { 4 };
-        assert_eq!(rt; numbers(&outcome), (4, lower, budget.min(3) as usize));
-        assert!(rt; is_accepted(alloc, &problem, &outcome)?);
+        let wanted = Found {
+            height: 4,
+            lower: if budget < 3 { 3 } else { 4 },
+            cuts: budget.min(3) as usize,
+            is_accepted: true,
+        };
+        let found = search(rt.alloc(), &mut learn, &problem, budget)?;
+        assert_eq!(rt; found, wanted, "budget {budget}");
     }
     Ok(())
 }
 
 // Without a cut the opening stands, three lines of widths 3 and 2, and the bound of the whole, two.
 #[test]
-fn two_cells_are_open_without_cuts_and_closed_with_six(rt: HostRuntime) -> Result<(), Fail> {
-    let alloc = rt.alloc();
-    let problem = two_cells(alloc, 12)?;
-    let mut learn = Learn::new(alloc);
-    let outcome = learn.solve(&problem, 0)?;
-    assert_eq!(rt; numbers(&outcome), (3, 2, 0));
-    assert_eq!(rt; outcome.best.widths.as_slice(), [3u32, 2].as_slice());
-    assert_eq!(rt; outcome.log.len(), 1);
-    assert!(rt; is_line(&outcome.log, 0, &[], &[], End::Chain));
-    let outcome = learn.solve(&problem, 6)?;
-    assert_eq!(rt; (outcome.best.height, outcome.lower), (2, 2));
-    assert_eq!(rt; outcome.best.widths.as_slice(), [3u32, 5].as_slice());
-    assert!(rt; is_accepted(alloc, &problem, &outcome)?);
+fn two_cells_are_open_without_cuts(rt: HostRuntime) -> Result<(), Fail> {
+    let problem = two_cells(rt.alloc(), 12)?;
+    let outcome = Learn::new(rt.alloc()).solve(&problem, 0)?;
+    assert_eq!(rt;
+        (numbers(&outcome), outcome.best.widths.as_slice()),
+        ((3, 2, 0), [3u32, 2].as_slice())
+    );
+    assert!(rt; has_lines(&outcome.log, &[(&[], &[], End::Chain)]));
+    Ok(())
+}
+
+#[test]
+fn two_cells_are_closed_with_six_cuts(rt: HostRuntime) -> Result<(), Fail> {
+    let problem = two_cells(rt.alloc(), 12)?;
+    let outcome = Learn::new(rt.alloc()).solve(&problem, 6)?;
+    assert_eq!(rt;
+        (
+            outcome.best.height,
+            outcome.lower,
+            outcome.best.widths.as_slice()
+        ),
+        (2, 2, [3u32, 5].as_slice())
+    );
+    assert!(rt; is_accepted(rt.alloc(), &problem, &outcome)?);
     Ok(())
 }
 
 #[test]
 fn two_cells_need_three_lines_on_nine_columns(rt: HostRuntime) -> Result<(), Fail> {
-    let alloc = rt.alloc();
-    let problem = two_cells(alloc, 9)?;
-    let outcome = Learn::new(alloc).solve(&problem, 100)?;
-    assert_eq!(rt; (outcome.best.height, outcome.lower), (3, 3));
-    assert_eq!(rt; outcome.best.width, 7);
-    assert!(rt; is_accepted(alloc, &problem, &outcome)?);
+    let problem = two_cells(rt.alloc(), 9)?;
+    let outcome = Learn::new(rt.alloc()).solve(&problem, 100)?;
+    assert_eq!(rt;
+        (outcome.best.height, outcome.lower, outcome.best.width),
+        (3, 3, 7)
+    );
+    assert!(rt; is_accepted(rt.alloc(), &problem, &outcome)?);
     Ok(())
 }
 
@@ -231,9 +276,14 @@ fn a_gap_between_low_and_high_stays_open(rt: HostRuntime) -> Result<(), Fail> {
     let mut cells = List::new(alloc);
     cells.push(cell(alloc, (0, 1), 0, &[config(3, 1)], &[config(3, 2)])?)?;
     let problem = problem(alloc, 1, 1, 10, cells)?;
-    let outcome = Learn::new(alloc).solve(&problem, MAX_BUDGET)?;
-    assert_eq!(rt; numbers(&outcome), (2, 1, 0));
-    assert!(rt; is_accepted(alloc, &problem, &outcome)?);
+    let found = search(alloc, &mut Learn::new(alloc), &problem, MAX_BUDGET)?;
+    let wanted = Found {
+        height: 2,
+        lower: 1,
+        cuts: 0,
+        is_accepted: true,
+    };
+    assert_eq!(rt; found, wanted);
     Ok(())
 }
 
@@ -261,24 +311,26 @@ fn has_zone(log: &Log) -> bool {
 // no bound can be taken from the nine: they stay those of the zone.
 #[test]
 fn nine_bounds_stay_those_of_their_zone(rt: HostRuntime) -> Result<(), Fail> {
-    let alloc = rt.alloc();
-    let problem = diagonal(alloc, 10, 30)?;
-    let outcome = Learn::new(alloc).solve(&problem, 2_000)?;
-    assert_eq!(rt; (outcome.best.height, outcome.lower), (19, 19));
-    assert!(rt; has_zone(&outcome.log));
-    assert!(rt; is_accepted(alloc, &problem, &outcome)?);
+    let problem = diagonal(rt.alloc(), 10, 30)?;
+    let outcome = Learn::new(rt.alloc()).solve(&problem, 2_000)?;
+    assert_eq!(rt;
+        (outcome.best.height, outcome.lower, has_zone(&outcome.log)),
+        (19, 19, true)
+    );
+    assert!(rt; is_accepted(rt.alloc(), &problem, &outcome)?);
     Ok(())
 }
 
 // Two of six columns may be wide. Each line has four bounds or fewer.
 #[test]
 fn four_bounds_are_written_out(rt: HostRuntime) -> Result<(), Fail> {
-    let alloc = rt.alloc();
-    let problem = diagonal(alloc, 6, 20)?;
-    let outcome = Learn::new(alloc).solve(&problem, 64)?;
-    assert_eq!(rt; (outcome.best.height, outcome.lower), (10, 10));
-    assert!(rt; !has_zone(&outcome.log));
-    assert!(rt; is_accepted(alloc, &problem, &outcome)?);
+    let problem = diagonal(rt.alloc(), 6, 20)?;
+    let outcome = Learn::new(rt.alloc()).solve(&problem, 64)?;
+    assert_eq!(rt;
+        (outcome.best.height, outcome.lower, has_zone(&outcome.log)),
+        (10, 10, false)
+    );
+    assert!(rt; is_accepted(rt.alloc(), &problem, &outcome)?);
     Ok(())
 }
 
@@ -294,20 +346,21 @@ fn no_nogood_closes_a_zone_where_low_is_not_high(rt: HostRuntime) -> Result<(), 
     let problem = problem(alloc, 2, 1, 8, cells)?;
     let mut learn = Learn::new(alloc);
     for budget in [0u32, 1, 3, 100] {
-        let outcome = learn.solve(&problem, budget)?;
-        assert_eq!(rt; (outcome.best.height, outcome.lower), (2, 1));
-        assert!(rt; is_accepted(alloc, &problem, &outcome)?);
+        let found = search(alloc, &mut learn, &problem, budget)?;
+        assert_eq!(rt;
+            (found.height, found.lower, found.is_accepted),
+            (2, 1, true),
+            "budget {budget}"
+        );
     }
     Ok(())
 }
 
 #[test]
 fn a_problem_without_columns_has_height_0(rt: HostRuntime) -> Result<(), Fail> {
-    let alloc = rt.alloc();
-    let problem = problem(alloc, 0, 0, 10, List::new(alloc))?;
-    let outcome = Learn::new(alloc).solve(&problem, 5)?;
-    assert_eq!(rt; numbers(&outcome), (0, 0, 0));
-    assert_eq!(rt; outcome.log.len(), 1);
+    let problem = problem(rt.alloc(), 0, 0, 10, List::new(rt.alloc()))?;
+    let outcome = Learn::new(rt.alloc()).solve(&problem, 5)?;
+    assert_eq!(rt; (numbers(&outcome), outcome.log.len()), ((0, 0, 0), 1));
     Ok(())
 }
 
@@ -436,22 +489,25 @@ fn drawn_table(alloc: Global, number: u32, size: Size, width: u32) -> Result<Pro
 // On a page of 60 columns both searches come to their end, and the one that learns has fewer cuts.
 #[test]
 fn a_drawn_table_has_one_height_by_both_searches(rt: HostRuntime) -> Result<(), Fail> {
-    let alloc = rt.alloc();
     let size = Size {
         rows: 30,
         cols: 6,
         least: 1,
         more: 5,
     };
-    let problem = drawn_table(alloc, 0, size, 60)?;
-    let plain = Plain::new(alloc).solve(&problem, 2_000)?;
-    let learn = Learn::new(alloc).solve(&problem, 2_000)?;
+    let problem = drawn_table(rt.alloc(), 0, size, 60)?;
+    let plain = Plain::new(rt.alloc()).solve(&problem, 2_000)?;
+    let (height, lower, cuts) = numbers(&plain);
+    let found = search(rt.alloc(), &mut Learn::new(rt.alloc()), &problem, 2_000)?;
     assert_eq!(rt;
-        (learn.best.height, learn.lower),
-        (plain.best.height, plain.lower)
+        (
+            found.height,
+            found.lower,
+            found.cuts <= cuts,
+            found.is_accepted
+        ),
+        (height, lower, true, true)
     );
-    assert!(rt; learn.trace.len() <= plain.trace.len());
-    assert!(rt; is_accepted(alloc, &problem, &learn)?);
     Ok(())
 }
 
