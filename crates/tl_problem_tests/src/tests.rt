@@ -6,6 +6,7 @@ ghost use Rattle.tl_problem.specs.Placements.{IsPlacement};
 ghost use Rattle.tl_problem.specs.Zones.{IsZone};
 
 use std::alloc::Global;
+use std::process::Abort;
 use std::test::Fail;
 use tl_base::{Config, List, Steps, Style};
 use tl_diff::{Arc, Matrix};
@@ -104,6 +105,11 @@ const COUNTS: &str = "\
 3 | 1:4 2:3 3:2 4:1 | 9223372036854775808
 4 | 1:4 2:3 3:2 4:1 | 18446744073709551615
 60 | 1:3 2:2 3:1 | 18446744073709551615";
+
+/// Asserts that what is found of a row is what is wanted of it.
+fn check_text(rt: &impl Abort, row: &str, found: &str, wanted: &str) {
+    assert_eq!(rt; found, wanted, "{row}");
+}
 
 fn number(text: &str) -> Result<u32, Fail> {
     Ok(text.parse::<u32>().ok().ok_or("no number")?)
@@ -267,10 +273,10 @@ fn spans_are_by_left_then_right_and_classes_begin_within_the_page(
     rt: HostRuntime,
 ) -> Result<(), Fail> {
     for row in CLASSES.lines() {
-        let (page, row) = halves(row)?;
-        let (cells, wanted) = halves(row)?;
+        let (page, rest) = halves(row)?;
+        let (cells, wanted) = halves(rest)?;
         let found = classes_of(rt.alloc(), &problem(rt.alloc(), page, cells)?)?;
-        assert_eq!(rt; found.as_str(), wanted, "{page} {cells}");
+        check_text(&rt, row, found.as_str(), wanted);
     }
     Ok(())
 }
@@ -287,17 +293,23 @@ fn shown_opening(alloc: Global, problem: &Problem) -> Result<String, Fail> {
 }
 
 #[test]
-fn whole_problems_have_the_bounds_and_openings_counted_by_hand(
-    rt: HostRuntime,
-) -> Result<(), Fail> {
+fn whole_problems_have_the_bounds_counted_by_hand(rt: HostRuntime) -> Result<(), Fail> {
     for row in WHOLES.lines() {
-        let (page, row) = halves(row)?;
-        let (cells, wanted) = halves(row)?;
-        let problem = problem(rt.alloc(), page, cells)?;
-        let found = found_in_whole(rt.alloc(), &problem)?;
-        assert_eq!(rt; found.as_str(), wanted, "{page} {cells}");
-        let opening = shown_opening(rt.alloc(), &problem)?;
-        assert!(rt; wanted.ends_with(opening.as_str()), "{page} {cells}");
+        let (page, rest) = halves(row)?;
+        let (cells, wanted) = halves(rest)?;
+        let found = found_in_whole(rt.alloc(), &problem(rt.alloc(), page, cells)?)?;
+        check_text(&rt, row, found.as_str(), wanted);
+    }
+    Ok(())
+}
+
+#[test]
+fn an_opening_is_the_placement_in_the_whole(rt: HostRuntime) -> Result<(), Fail> {
+    for row in WHOLES.lines() {
+        let (page, rest) = halves(row)?;
+        let (cells, wanted) = halves(rest)?;
+        let opening = shown_opening(rt.alloc(), &problem(rt.alloc(), page, cells)?)?;
+        assert!(rt; wanted.ends_with(opening.as_str()), "{row}");
     }
     Ok(())
 }
@@ -324,12 +336,12 @@ fn shown_placed(alloc: Global, problem: &Problem, widths: &str) -> Result<String
 #[test]
 fn a_placement_has_the_least_heights_under_its_widths(rt: HostRuntime) -> Result<(), Fail> {
     for row in PLACED.lines() {
-        let (page, row) = halves(row)?;
-        let (cells, row) = halves(row)?;
-        let (widths, wanted) = halves(row)?;
+        let (page, rest) = halves(row)?;
+        let (cells, rest) = halves(rest)?;
+        let (widths, wanted) = halves(rest)?;
         let problem = problem(rt.alloc(), page, cells)?;
         let found = shown_placed(rt.alloc(), &problem, widths)?;
-        assert_eq!(rt; found.as_str(), wanted, "{page} {cells} {widths}");
+        check_text(&rt, row, found.as_str(), wanted);
     }
     Ok(())
 }
@@ -361,7 +373,7 @@ fn a_placement_is_given_where_it_is_lower(rt: HostRuntime) -> Result<(), Fail> {
         ("8 2", 0, "None"),
     ] {
         let found = shown_lower(rt.alloc(), &problem, widths, height)?;
-        assert_eq!(rt; found.as_str(), wanted, "{widths} {height}");
+        check_text(&rt, widths, found.as_str(), wanted);
     }
     Ok(())
 }
@@ -382,9 +394,11 @@ fn parts_have_bounds_and_least_widths(rt: HostRuntime) -> Result<(), Fail> {
         outlined(rt.alloc(), &problem, &upper)?,
         outlined(rt.alloc(), &problem, &none)?
     )?;
-    assert_eq!(rt;
+    check_text(
+        &rt,
+        TWO_CELLS,
         found.as_str(),
-        "2 [3, 2] [3, 2]; 2 [3, 2] [3, 2]; 3 [7, 2] [7, 2]; None None"
+        "2 [3, 2] [3, 2]; 2 [3, 2] [3, 2]; 3 [7, 2] [7, 2]; None None",
     );
     Ok(())
 }
@@ -413,7 +427,8 @@ fn a_tight_placement_has_the_least_columns_for_its_heights(rt: HostRuntime) -> R
     let problem = problem(rt.alloc(), "plain 2x1 12", TWO_CELLS)?;
     let placed = placed(rt.alloc(), &problem, "4 6")?.ok_or("no placement")?;
     let found = shown_tight_twice(rt.alloc(), &problem, &placed)?;
-    assert_eq!(rt; found.as_str(), "[3, 5] [2] 10x2; [3, 5] [2] 10x2");
+    let wanted = "[3, 5] [2] 10x2; [3, 5] [2] 10x2";
+    check_text(&rt, TWO_CELLS, found.as_str(), wanted);
     Ok(())
 }
 
@@ -456,10 +471,8 @@ fn seven_cuts_of_four_columns_make_fifteen_zones(rt: HostRuntime) -> Result<(), 
     let mut bounds = List::new(rt.alloc());
     write_bounds(&problem, &whole(&problem)?, 0, &mut bounds)?;
     let found = format!(in rt.alloc(); "{:?}", bounds.as_slice())?;
-    assert_eq!(rt;
-        found.as_str(),
-        "[3, 3, 3, 4, 4, 3, 4, 4, 3, 3, 4, 4, 3, 4, 4]"
-    );
+    let wanted = "[3, 3, 3, 4, 4, 3, 4, 4, 3, 3, 4, 4, 3, 4, 4]";
+    check_text(&rt, FOUR_COLUMNS, found.as_str(), wanted);
     Ok(())
 }
 
@@ -489,10 +502,8 @@ fn a_zone_that_no_widths_lie_in_has_no_bound(rt: HostRuntime) -> Result<(), Fail
     let whole = whole(&problem)?;
     let wide = upper_part(&whole, &problem, 0)?;
     let found = found_in_parts(rt.alloc(), &problem, &wide, 1)?;
-    assert_eq!(rt;
-        found.as_str(),
-        "Some(3) Some(2) [7, 2] [3] 11x3; None None "
-    );
+    let wanted = "Some(3) Some(2) [7, 2] [3] 11x3; None None ";
+    check_text(&rt, TWO_CELLS, found.as_str(), wanted);
     Ok(())
 }
 
@@ -504,7 +515,7 @@ fn a_colspan_is_cut_at_its_own_classes(rt: HostRuntime) -> Result<(), Fail> {
     let whole = whole(&problem)?;
     let found = found_in_parts(rt.alloc(), &problem, &whole, 1)?;
     let wanted = "Some(4) Some(4) [1, 2] [3, 1] 5x4; Some(3) Some(3) [1, 4] [2, 1] 7x3";
-    assert_eq!(rt; found.as_str(), wanted);
+    check_text(&rt, A_COLSPAN, found.as_str(), wanted);
     Ok(())
 }
 
@@ -529,10 +540,9 @@ fn soundness(alloc: Global, page: &str, cells: &str) -> Result<&'static str, Fai
 #[test]
 fn a_sound_problem_keeps_the_grid_its_steps_and_the_page(rt: HostRuntime) -> Result<(), Fail> {
     for row in SOUND.lines() {
-        let (page, row) = halves(row)?;
-        let (cells, wanted) = halves(row)?;
-        let found = soundness(rt.alloc(), page, cells)?;
-        assert_eq!(rt; found, wanted, "{page} {cells}");
+        let (page, rest) = halves(row)?;
+        let (cells, wanted) = halves(rest)?;
+        check_text(&rt, row, soundness(rt.alloc(), page, cells)?, wanted);
     }
     Ok(())
 }
@@ -567,13 +577,13 @@ fn count_of_row(alloc: Global, cols: u32, more: u32, one: &str) -> Result<String
 #[test]
 fn counts_of_sixty_columns_stop_at_the_last_number_of_64_bits(rt: HostRuntime) -> Result<(), Fail> {
     for row in COUNTS.lines() {
-        let (more, row) = halves(row)?;
-        let (one, wanted) = halves(row)?;
+        let (more, rest) = halves(row)?;
+        let (one, wanted) = halves(rest)?;
         let found = count_of_row(rt.alloc(), 60, number(more)?, one)?;
-        assert_eq!(rt; found.as_str(), wanted, "{more} {one}");
+        check_text(&rt, row, found.as_str(), wanted);
     }
     let found = count_of_row(rt.alloc(), 61, 0, "1:1")?;
-    assert_eq!(rt; found.as_str(), "no sound problem");
+    check_text(&rt, "61 columns", found.as_str(), "no sound problem");
     Ok(())
 }
 
