@@ -12,6 +12,7 @@ mod refusals;
 mod rounds;
 mod styles;
 mod tidy;
+mod trying;
 mod usage;
 mod workers;
 

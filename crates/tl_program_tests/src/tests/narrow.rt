@@ -1,28 +1,11 @@
 //! The narrowest page for a height: what `narrow` stores and prints, and what `check` says of it.
 
-use crate::tests::{NESTED, TWO, check_refused, desk, desk_with, held, status_of};
-use std::process::Abort;
+use crate::tests::trying::{Tried, check_stored, check_tried};
+use crate::tests::{NESTED, TWO, check_refused, desk_with, held, status_of};
 use std::test::Fail as Failure;
-use std::thread::Threads;
-use tl_base::{Fail, MemoryDesk};
-
-/// A command line over a file, with its status and its message; the page where one is stored; and how the
-/// files of the certificate, of that of the page one column narrower, and of that with which the search
-/// ended early begin, where they are stored.
-#[derive(Clone, Copy)]
-struct Slimmed<'a> {
-    line: &'a str,
-    file: &'a str,
-    status: u8,
-    message: &'a str,
-    page: Option<&'a str>,
-    kept: Option<&'a str>,
-    less: Option<&'a str>,
-    spent: Option<&'a str>,
-}
 
 /// Two lines in 10 columns.
-const IN_TWO: Slimmed<'static> = Slimmed {
+const IN_TWO: Tried<'static> = Tried {
     line: "narrow 2 t.html p.txt c.txt l.txt s.txt",
     file: TWO,
     status: 0,
@@ -33,9 +16,9 @@ const IN_TWO: Slimmed<'static> = Slimmed {
     spent: None,
 };
 
-const FOUND: &[Slimmed<'static>] = &[
+const FOUND: &[Tried<'static>] = &[
     IN_TWO,
-    Slimmed {
+    Tried {
         line: "narrow 3 t.html p.txt c.txt l.txt s.txt",
         message: "slimmest width 7 height 3\n",
         page: Some("aaa  cc\nbbb  dd\n     ee\n"),
@@ -44,7 +27,7 @@ const FOUND: &[Slimmed<'static>] = &[
         ..IN_TWO
     },
     // The table's least width, whatever height is allowed.
-    Slimmed {
+    Tried {
         line: "narrow 1073741824 t.html p.txt c.txt l.txt s.txt",
         message: "slimmest width 7 height 1073741824\n",
         page: Some("aaa  cc\nbbb  dd\n     ee\n"),
@@ -52,12 +35,12 @@ const FOUND: &[Slimmed<'static>] = &[
         less: Some("tablelayout 1 6 plain 5000\nnarrow 7\nchain 0 0 1\nend\n"),
         ..IN_TWO
     },
-    Slimmed {
+    Tried {
         line: "narrow 2 t.html p.txt c.txt l.txt s.txt --solver plain --workers 3",
         ..IN_TWO
     },
     // The frame takes a line above and below and between, and a column at each side.
-    Slimmed {
+    Tried {
         line: "narrow 4 t.html p.txt c.txt l.txt s.txt --style frame",
         message: "slimmest width 11 height 4\n",
         page: Some("+---+-----+\n|aaa|cc dd|\n|bbb|ee   |\n+---+-----+\n"),
@@ -66,7 +49,7 @@ const FOUND: &[Slimmed<'static>] = &[
         ..IN_TWO
     },
     // Between characters two columns of one cell and a gap hold the table, in more lines.
-    Slimmed {
+    Tried {
         line: "narrow 3 t.html p.txt c.txt l.txt s.txt --break any",
         file: "<table><tr><td>abc</table>",
         message: "slimmest width 1 height 3\n",
@@ -75,14 +58,14 @@ const FOUND: &[Slimmed<'static>] = &[
         less: None,
         ..IN_TWO
     },
-    Slimmed {
+    Tried {
         line: "narrow 2 t.html p.txt c.txt l.txt s.txt",
         file: NESTED,
         kept: Some("tablelayout 1 10 plain 3992\nlowest 2\n"),
         less: Some("tablelayout 1 9 plain 3992\nlowest 3\n"),
         ..IN_TWO
     },
-    Slimmed {
+    Tried {
         line: "narrow 2 t.html p.txt c.txt l.txt s.txt --html",
         page: Some(
             "<table>\n<colgroup><col style=\"width:3ch\"><col style=\"width:5ch\"></colgroup>\n\
@@ -91,7 +74,7 @@ const FOUND: &[Slimmed<'static>] = &[
         ..IN_TWO
     },
     // A table without columns has no lines, and fits the narrowest page that there is.
-    Slimmed {
+    Tried {
         line: "narrow 0 t.html p.txt c.txt l.txt s.txt",
         file: "<table></table>",
         message: "slimmest width 1 height 0\n",
@@ -103,8 +86,8 @@ const FOUND: &[Slimmed<'static>] = &[
 ];
 
 /// No page holds the table in so few lines; or the budget does not tell.
-const NOT_FOUND: &[Slimmed<'static>] = &[
-    Slimmed {
+const NOT_FOUND: &[Tried<'static>] = &[
+    Tried {
         line: "narrow 0 t.html p.txt c.txt l.txt s.txt",
         status: 12,
         message: "too tall height 0\n",
@@ -113,7 +96,7 @@ const NOT_FOUND: &[Slimmed<'static>] = &[
         less: Some("tablelayout 1 500 plain 5000\nlowest 1\n"),
         ..IN_TWO
     },
-    Slimmed {
+    Tried {
         line: "narrow 2 t.html p.txt c.txt l.txt s.txt --budget 0",
         status: 3,
         message: "bounded width none least 7\n",
@@ -126,23 +109,23 @@ const NOT_FOUND: &[Slimmed<'static>] = &[
 ];
 
 /// What is not named is not stored, and all else is as with every file.
-const UNNAMED: &[Slimmed<'static>] = &[
-    Slimmed {
+const UNNAMED: &[Tried<'static>] = &[
+    Tried {
         line: "narrow 2 t.html p.txt",
         kept: None,
         less: None,
         ..IN_TWO
     },
-    Slimmed {
+    Tried {
         line: "narrow 2 t.html p.txt c.txt",
         less: None,
         ..IN_TWO
     },
-    Slimmed {
+    Tried {
         line: "narrow 2 t.html p.txt c.txt l.txt",
         ..IN_TWO
     },
-    Slimmed {
+    Tried {
         line: "narrow 0 t.html p.txt c.txt",
         status: 12,
         message: "too tall height 0\n",
@@ -153,44 +136,11 @@ const UNNAMED: &[Slimmed<'static>] = &[
     },
 ];
 
-/// The file of this name begins so, or is not there.
-fn begins(desk: &MemoryDesk, name: &str, wanted: Option<&str>) -> bool {
-    match (held(desk, name), wanted) {
-        (Some(text), Some(wanted)) => {
-            text.starts_with(wanted.as_bytes()) && text.ends_with(b"\nend\n")
-        }
-        (None, None) => true,
-        _ => false,
-    }
-}
-
-/// Runs the case, and compares all that is wanted of it.
-fn check(
-    rt: &(impl Abort + AllocGlobal + Threads + Sync),
-    case: &Slimmed<'_>,
-) -> Result<(), Failure> {
-    let alloc = rt.alloc();
-    let line = case.line;
-    let mut desk = desk(alloc, case.file.as_bytes(), &[])?;
-    let status = status_of(rt, alloc, line, &mut desk)?;
-    assert_eq!(rt; status, case.status, "{line}");
-    assert_eq!(rt; desk.said(), case.message.as_bytes(), "{line}");
-    let page = case.page.map(|page| page.as_bytes());
-    assert_eq!(rt; held(&desk, "p.txt"), page, "{line}");
-    assert!(rt; begins(&desk, "c.txt", case.kept), "{line}: c.txt");
-    assert!(rt; begins(&desk, "l.txt", case.less), "{line}: l.txt");
-    assert!(rt; begins(&desk, "s.txt", case.spent), "{line}: s.txt");
-    Ok(())
-}
-
 #[test]
 fn the_narrowest_page_is_stored(rt: HostRuntime) -> Result<(), Failure> {
-    for cases in [FOUND, NOT_FOUND, UNNAMED] {
-        for case in cases {
-            check(&rt, case)?;
-        }
-    }
-    Ok(())
+    check_tried(&rt, FOUND)?;
+    check_tried(&rt, NOT_FOUND)?;
+    check_tried(&rt, UNNAMED)
 }
 
 /// A command line of `narrow` on `TWO`, and checks of what it has stored with their statuses.
@@ -223,55 +173,21 @@ const CHECKED: &[(&str, &[(&str, u8)])] = &[
 
 #[test]
 fn a_check_accepts_each_certificate_that_is_stored(rt: HostRuntime) -> Result<(), Failure> {
-    let alloc = rt.alloc();
-    for (line, checks) in CHECKED {
-        let mut desk = desk(alloc, TWO.as_bytes(), &[])?;
-        status_of(&rt, alloc, line, &mut desk)?;
-        for (check, wanted) in *checks {
-            let status = status_of(&rt, alloc, check, &mut desk)?;
-            assert_eq!(rt; status, *wanted, "{line}: {check}");
-        }
-    }
-    Ok(())
-}
-
-/// The files in the order in which they are stored, the page first.
-const STORED: [&str; 3] = ["p.txt", "c.txt", "l.txt"];
-
-#[test]
-fn files_that_fail_leave_those_before_them(rt: HostRuntime) -> Result<(), Failure> {
-    let alloc = rt.alloc();
-    let line = "narrow 2 t.html p.txt c.txt l.txt s.txt";
-    let mut whole = desk(alloc, TWO.as_bytes(), &[])?;
-    status_of(&rt, alloc, line, &mut whole)?;
-    for call in 0..5u32 {
-        let fail = Fail { call, bytes: 5 };
-        let mut desk = desk(alloc, TWO.as_bytes(), &[fail])?;
-        let status = status_of(&rt, alloc, line, &mut desk)?;
-        assert_eq!(rt; status, if call == 0 { 7 } else { 8 }, "{call}");
-        for (place, name) in STORED.iter().enumerate() {
-            let stored = held(&whole, name).unwrap_or(b"");
-            let wanted = match call as usize {
-                0 => None,
-                failing if place + 1 < failing => Some(stored),
-                failing if place + 1 == failing => Some(&stored[..stored.len().min(5)]),
-                _ => None,
-            };
-            assert_eq!(rt; held(&desk, name), wanted, "{call} {name}");
-        }
+    for &(line, checks) in CHECKED {
+        check_stored(&rt, TWO, line, checks)?;
     }
     Ok(())
 }
 
 #[test]
 fn what_is_not_stored_stays(rt: HostRuntime) -> Result<(), Failure> {
-    let alloc = rt.alloc();
-    let mut desk = desk_with(alloc, TWO.as_bytes(), Some("before"), &[])?;
+    let mut desk = desk_with(rt.alloc(), TWO.as_bytes(), Some("before"), &[])?;
     let line = "narrow 0 t.html p.txt c.txt l.txt s.txt";
-    let status = status_of(&rt, alloc, line, &mut desk)?;
-    assert_eq!(rt; status, 12);
-    assert_eq!(rt; held(&desk, "c.txt"), Some(b"before".as_slice()));
-    assert_eq!(rt; held(&desk, "p.txt"), None);
+    let status = status_of(&rt, rt.alloc(), line, &mut desk)?;
+    assert_eq!(rt;
+        (status, held(&desk, "c.txt"), held(&desk, "p.txt")),
+        (12, Some(b"before".as_slice()), None)
+    );
     Ok(())
 }
 

@@ -1,31 +1,15 @@
 //! The narrowest of the lowest pages, in the layout that is chosen: what `tidy` stores and prints, and what
 //! `check` says of it.
 
+use crate::tests::trying::{Tried, check_stored, check_tried};
 use crate::tests::{NESTED, ONE, TWO, check_refused, desk, held, status_of};
-use std::process::Abort;
 use std::test::Fail as Failure;
-use std::thread::Threads;
-use tl_base::{Fail, MemoryDesk};
-
-/// A command line over a file, with its status and its message; the page where one is stored; and how the
-/// files of the certificate, of that of the page one column narrower, and of that with which the search
-/// ended early begin, where they are stored.
-#[derive(Clone, Copy)]
-struct Tidied<'a> {
-    line: &'a str,
-    file: &'a str,
-    status: u8,
-    message: &'a str,
-    page: Option<&'a str>,
-    kept: Option<&'a str>,
-    less: Option<&'a str>,
-    spent: Option<&'a str>,
-}
+use tl_base::MemoryDesk;
 
 /// Three lines on 7 columns and on 6, and four on 5.
 const FOUR_CELLS: &str = "<table><tr><td>a a<td>b<tr><td>c<td>d d</table>";
 
-const IN_SIX: Tidied<'static> = Tidied {
+const IN_SIX: Tried<'static> = Tried {
     line: "tidy 7 t.html p.txt c.txt l.txt s.txt",
     file: FOUR_CELLS,
     status: 0,
@@ -36,7 +20,7 @@ const IN_SIX: Tidied<'static> = Tidied {
     spent: None,
 };
 
-const TWO_LINES: Tidied<'static> = Tidied {
+const TWO_LINES: Tried<'static> = Tried {
     line: "tidy 12 t.html p.txt c.txt l.txt s.txt",
     file: TWO,
     message: "tidy height 2 width 10\n",
@@ -46,23 +30,23 @@ const TWO_LINES: Tidied<'static> = Tidied {
     ..IN_SIX
 };
 
-const FOUND: &[Tidied<'static>] = &[
+const FOUND: &[Tried<'static>] = &[
     IN_SIX,
-    Tidied {
+    Tried {
         line: "tidy 7 t.html p.txt c.txt l.txt s.txt --solver plain",
         ..IN_SIX
     },
-    Tidied {
+    Tried {
         line: "tidy 7 t.html p.txt c.txt l.txt s.txt --solver best --workers 3",
         ..IN_SIX
     },
-    Tidied {
+    Tried {
         line: "tidy 7 t.html p.txt c.txt l.txt s.txt --solver learn",
         ..IN_SIX
     },
     TWO_LINES,
     // One of three columns is broken, whichever it is: the choice breaks the first.
-    Tidied {
+    Tried {
         line: "tidy 12 t.html p.txt c.txt l.txt s.txt",
         file: "<table><tr><td>a a<td>x<td>y<tr><td>p<td>b b<td>q<tr><td>r<td>s<td>c c</table>",
         message: "tidy height 4 width 11\n",
@@ -72,7 +56,7 @@ const FOUND: &[Tidied<'static>] = &[
         ..IN_SIX
     },
     // The frame takes a line above and below and between, and a column at each side.
-    Tidied {
+    Tried {
         line: "tidy 12 t.html p.txt c.txt l.txt s.txt --style frame",
         message: "tidy height 4 width 11\n",
         page: Some("+---+-----+\n|aaa|cc dd|\n|bbb|ee   |\n+---+-----+\n"),
@@ -81,14 +65,14 @@ const FOUND: &[Tidied<'static>] = &[
         ..TWO_LINES
     },
     // A nested table is laid out as before, in the room that it has.
-    Tidied {
+    Tried {
         line: "tidy 12 t.html p.txt c.txt l.txt s.txt --budget 100",
         file: NESTED,
         kept: Some("tablelayout 1 10 plain 100\nlowest 2\n"),
         less: Some("tablelayout 1 9 plain 100\nlowest 3\n"),
         ..TWO_LINES
     },
-    Tidied {
+    Tried {
         line: "tidy 12 t.html p.txt c.txt l.txt s.txt --html",
         page: Some(
             "<table>\n<colgroup><col style=\"width:3ch\"><col style=\"width:5ch\"></colgroup>\n\
@@ -97,7 +81,7 @@ const FOUND: &[Tidied<'static>] = &[
         ..TWO_LINES
     },
     // One line in 8 columns, which is all that is asked for, and in no fewer.
-    Tidied {
+    Tried {
         line: "tidy 8 t.html p.txt c.txt l.txt s.txt",
         file: ONE,
         message: "tidy height 1 width 8\n",
@@ -107,7 +91,7 @@ const FOUND: &[Tidied<'static>] = &[
         ..IN_SIX
     },
     // A table without columns has no lines, and fits the narrowest page that there is.
-    Tidied {
+    Tried {
         line: "tidy 9 t.html p.txt c.txt l.txt s.txt",
         file: "<table></table>",
         message: "tidy height 0 width 1\n",
@@ -119,8 +103,8 @@ const FOUND: &[Tidied<'static>] = &[
 ];
 
 /// Told as by `lay`: the page is not known to be the lowest, or there is none.
-const EARLY: &[Tidied<'static>] = &[
-    Tidied {
+const EARLY: &[Tried<'static>] = &[
+    Tried {
         line: "tidy 12 t.html p.txt c.txt l.txt s.txt --budget 0",
         status: 3,
         message: "bounded height 3 lower 2 width 7\n",
@@ -129,7 +113,7 @@ const EARLY: &[Tidied<'static>] = &[
         less: None,
         ..TWO_LINES
     },
-    Tidied {
+    Tried {
         line: "tidy 6 t.html p.txt c.txt l.txt s.txt",
         status: 4,
         message: "narrow least 7 width 6\n",
@@ -148,9 +132,9 @@ const TALL: &str =
     "<table><tr><td><table><tr><td>aaa bbb<td>cc dd ee</table><td>c<br>c<br>c<br>c<br>c</table>";
 
 /// The page is as low as any, and what the budget left open is told.
-const LEFT_OPEN: &[Tidied<'static>] = &[
+const LEFT_OPEN: &[Tried<'static>] = &[
     // The page of 14 columns was tried and is too high, and that of 16 was not decided.
-    Tidied {
+    Tried {
         line: "tidy 19 t.html p.txt c.txt l.txt s.txt --budget 1",
         file: THREE_CELLS,
         status: 3,
@@ -161,7 +145,7 @@ const LEFT_OPEN: &[Tidied<'static>] = &[
         spent: Some("tablelayout 1 16 plain 1\nbounded 3 2\n"),
     },
     // The choice takes three cuts.
-    Tidied {
+    Tried {
         line: "tidy 12 t.html p.txt c.txt l.txt s.txt --budget 2",
         status: 3,
         message: "untidy choice\n",
@@ -169,14 +153,14 @@ const LEFT_OPEN: &[Tidied<'static>] = &[
         less: Some("tablelayout 1 9 plain 2\nlowest 3\n"),
         ..TWO_LINES
     },
-    Tidied {
+    Tried {
         line: "tidy 12 t.html p.txt c.txt l.txt s.txt --budget 3",
         kept: Some("tablelayout 1 10 plain 3\nlowest 2\n"),
         less: Some("tablelayout 1 9 plain 3\nlowest 3\n"),
         ..TWO_LINES
     },
     // How low the nested table is on 10 columns is not known, and no choice is made on it.
-    Tidied {
+    Tried {
         line: "tidy 12 t.html p.txt c.txt l.txt s.txt --budget 0",
         file: TALL,
         status: 3,
@@ -189,62 +173,30 @@ const LEFT_OPEN: &[Tidied<'static>] = &[
 ];
 
 /// What is not named is not stored, and all else is as with every file.
-const UNNAMED: &[Tidied<'static>] = &[
-    Tidied {
+const UNNAMED: &[Tried<'static>] = &[
+    Tried {
         line: "tidy 12 t.html p.txt",
         kept: None,
         less: None,
         ..TWO_LINES
     },
-    Tidied {
+    Tried {
         line: "tidy 12 t.html p.txt c.txt",
         less: None,
         ..TWO_LINES
     },
-    Tidied {
+    Tried {
         line: "tidy 12 t.html p.txt c.txt l.txt",
         ..TWO_LINES
     },
 ];
 
-/// The file of this name begins so, or is not there.
-fn begins(desk: &MemoryDesk, name: &str, wanted: Option<&str>) -> bool {
-    match (held(desk, name), wanted) {
-        (Some(text), Some(wanted)) => {
-            text.starts_with(wanted.as_bytes()) && text.ends_with(b"\nend\n")
-        }
-        (None, None) => true,
-        _ => false,
-    }
-}
-
-/// Runs the case, and compares all that is wanted of it.
-fn check(
-    rt: &(impl Abort + AllocGlobal + Threads + Sync),
-    case: &Tidied<'_>,
-) -> Result<(), Failure> {
-    let alloc = rt.alloc();
-    let line = case.line;
-    let mut desk = desk(alloc, case.file.as_bytes(), &[])?;
-    let status = status_of(rt, alloc, line, &mut desk)?;
-    assert_eq!(rt; status, case.status, "{line}");
-    assert_eq!(rt; desk.said(), case.message.as_bytes(), "{line}");
-    let page = case.page.map(|page| page.as_bytes());
-    assert_eq!(rt; held(&desk, "p.txt"), page, "{line}");
-    assert!(rt; begins(&desk, "c.txt", case.kept), "{line}: c.txt");
-    assert!(rt; begins(&desk, "l.txt", case.less), "{line}: l.txt");
-    assert!(rt; begins(&desk, "s.txt", case.spent), "{line}: s.txt");
-    Ok(())
-}
-
 #[test]
 fn the_lowest_page_is_stored_on_the_narrowest(rt: HostRuntime) -> Result<(), Failure> {
-    for cases in [FOUND, EARLY, LEFT_OPEN, UNNAMED] {
-        for case in cases {
-            check(&rt, case)?;
-        }
-    }
-    Ok(())
+    check_tried(&rt, FOUND)?;
+    check_tried(&rt, EARLY)?;
+    check_tried(&rt, LEFT_OPEN)?;
+    check_tried(&rt, UNNAMED)
 }
 
 /// Command lines of `tidy`, each with the file that it reads, and checks of what it has stored with their
@@ -298,14 +250,8 @@ const CHECKED: &[(&str, &str, &[(&str, u8)])] = &[
 
 #[test]
 fn a_check_accepts_each_certificate_that_is_stored(rt: HostRuntime) -> Result<(), Failure> {
-    let alloc = rt.alloc();
-    for (file, line, checks) in CHECKED {
-        let mut desk = desk(alloc, file.as_bytes(), &[])?;
-        status_of(&rt, alloc, line, &mut desk)?;
-        for (check, wanted) in *checks {
-            let status = status_of(&rt, alloc, check, &mut desk)?;
-            assert_eq!(rt; status, *wanted, "{line}: {check}");
-        }
+    for &(file, line, checks) in CHECKED {
+        check_stored(&rt, file, line, checks)?;
     }
     Ok(())
 }
@@ -326,17 +272,12 @@ const EFFORTS: &[&str] = &[
 
 #[test]
 fn whatever_found_it_the_page_is_the_same(rt: HostRuntime) -> Result<(), Failure> {
-    let alloc = rt.alloc();
+    let page = IN_SIX.page.map(|page| page.as_bytes());
     for line in EFFORTS {
-        let mut desk = desk(alloc, FOUR_CELLS.as_bytes(), &[])?;
-        match status_of(&rt, alloc, line, &mut desk)? {
-            0 => {
-                let page = IN_SIX.page.map(|page| page.as_bytes());
-                assert_eq!(rt; held(&desk, "p.txt"), page, "{line}");
-                assert_eq!(rt; desk.said(), IN_SIX.message.as_bytes(), "{line}");
-            }
-            status => assert_eq!(rt; status, 3, "{line}"),
-        }
+        let mut desk = desk(rt.alloc(), FOUR_CELLS.as_bytes(), &[])?;
+        let status = status_of(&rt, rt.alloc(), line, &mut desk)?;
+        let tidy = held(&desk, "p.txt") == page && desk.said() == IN_SIX.message.as_bytes();
+        assert!(rt; status == 3 || status == 0 && tidy, "{line}: {status}");
     }
     Ok(())
 }
@@ -347,6 +288,19 @@ const SIXTEEN_WAYS: &str =
 
 /// Its tidy page: the first two columns broken, as the others take two lines in any case.
 const OF_SIXTEEN: &str = "a  b  c         \na  b  c         \np  q  cccc  dddd\n      cccc  dddd\n";
+
+/// The desk holds the tidy page, which was told.
+fn is_of_sixteen(desk: &MemoryDesk) -> bool {
+    desk.said() == "tidy height 4 width 16\n".as_bytes()
+        && held(desk, "p.txt") == Some(OF_SIXTEEN.as_bytes())
+}
+
+/// The message says what the budget left open.
+fn is_left_open(said: &[u8]) -> bool {
+    said.starts_with(b"bounded height 4 lower 3 ")
+        || said.starts_with(b"untidy width ")
+        || said == "untidy choice\n".as_bytes()
+}
 
 #[test]
 fn each_budget_gives_an_answer_and_each_tidy_page_is_the_same(
@@ -360,44 +314,12 @@ fn each_budget_gives_an_answer_and_each_tidy_page_is_the_same(
             )?;
             let mut desk = desk(alloc, SIXTEEN_WAYS.as_bytes(), &[])?;
             let status = status_of(&rt, alloc, line.as_str(), &mut desk)?;
-            let said = desk.said();
-            if status == 0 {
-                assert_eq!(rt; said, "tidy height 4 width 16\n".as_bytes(), "{line}");
-                assert_eq!(rt; held(&desk, "p.txt"), Some(OF_SIXTEEN.as_bytes()), "{line}");
-            } else {
-                let open = said.starts_with(b"bounded height 4 lower 3 ")
-                    || said.starts_with(b"untidy width ")
-                    || said == "untidy choice\n".as_bytes();
-                assert!(rt; status == 3 && open && budget < 16, "{line}: {status}");
-            }
-        }
-    }
-    Ok(())
-}
-
-/// The files in the order in which they are stored, the page first.
-const STORED: [&str; 3] = ["p.txt", "c.txt", "l.txt"];
-
-#[test]
-fn files_that_fail_leave_those_before_them(rt: HostRuntime) -> Result<(), Failure> {
-    let alloc = rt.alloc();
-    let line = "tidy 12 t.html p.txt c.txt l.txt s.txt";
-    let mut whole = desk(alloc, TWO.as_bytes(), &[])?;
-    status_of(&rt, alloc, line, &mut whole)?;
-    for call in 0..5u32 {
-        let fail = Fail { call, bytes: 5 };
-        let mut desk = desk(alloc, TWO.as_bytes(), &[fail])?;
-        let status = status_of(&rt, alloc, line, &mut desk)?;
-        assert_eq!(rt; status, if call == 0 { 7 } else { 8 }, "{call}");
-        for (place, name) in STORED.iter().enumerate() {
-            let stored = held(&whole, name).unwrap_or(b"");
-            let wanted = match call as usize {
-                0 => None,
-                failing if place + 1 < failing => Some(stored),
-                failing if place + 1 == failing => Some(&stored[..stored.len().min(5)]),
-                _ => None,
+            let answered = match status {
+                0 => is_of_sixteen(&desk),
+                3 => budget < 16 && is_left_open(desk.said()),
+                _ => false,
             };
-            assert_eq!(rt; held(&desk, name), wanted, "{call} {name}");
+            assert!(rt; answered, "{line}: {status}");
         }
     }
     Ok(())
