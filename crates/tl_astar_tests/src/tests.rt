@@ -8,7 +8,7 @@ use tl_astar::Best;
 use tl_base::{Config, List, MAX_BUDGET, Steps, Style};
 use tl_cert::{End, Log, Nogood};
 use tl_problem::{Cell, Problem};
-use tl_solve::{Outcome, Solver};
+use tl_solve::{Arena, Outcome, Solver};
 
 fn share<T: Send + Sync + Drop>(_value: T) {}
 
@@ -269,6 +269,21 @@ fn a_problem_without_columns_has_height_0(rt: HostRuntime) -> Result<(), Fail> {
     let outcome = Best::new(alloc).solve(&problem, 5)?;
     assert_eq!(rt; numbers(&outcome), (0, 0, 0));
     assert_eq!(rt; outcome.log.len(), 1);
+    Ok(())
+}
+
+// With their gaps both cells take 5 columns of a line at least, and the page has 9 with one: two lines, where each
+// cell alone has room for its one.
+#[test]
+fn an_arena_tells_the_area_bound_of_the_whole(rt: HostRuntime) -> Result<(), Fail> {
+    let pair = [config(1, 2), config(3, 1)];
+    let mut cells = List::new(rt.alloc());
+    add(rt.alloc(), &mut cells, (0, 1), 0, &pair)?;
+    add(rt.alloc(), &mut cells, (1, 2), 0, &pair)?;
+    let problem = problem(rt.alloc(), 2, 1, 7, cells)?;
+    let mut arena = Arena::open(rt.alloc(), &problem)?;
+    let area = arena.area_of(&problem, 0);
+    assert_eq!(rt; (area, arena.bounds()), (Some(2), [Some(1)].as_slice()));
     Ok(())
 }
 
