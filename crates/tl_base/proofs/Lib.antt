@@ -7,5 +7,6 @@ pub mod Options
 pub mod SizeLaws
 pub mod Stacking
 pub mod Sums
+pub mod Taken
 pub mod Texts
 pub mod Zips

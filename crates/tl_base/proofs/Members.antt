@@ -26,6 +26,22 @@ Contains-cases x xs y (suc k, within, is) = inr (k, omega arith, is)
 pub Contains-none : {X : Type 0} (x : X) → Contains [] x → ⊥
 Contains-none x has = omega (arith, has.1)
 
+pub Contains-one : {X : Type 0} (x y : X) → Contains (x ∷ []) y → x ≡ y
+Contains-one x y (zero, within, is) = is
+Contains-one x y (suc k, within, is) = absurd (omega (arith, within))
+
+-- a list that contains nothing is empty
+pub none-Contains : {X : Type 0} (xs : List X) → ((x : X) → Contains xs x → ⊥) → xs ≡ []
+none-Contains [] none = refl
+none-Contains (x ∷ xs) none = absurd (none x (Contains-first x xs))
+
+-- lists that are the same begin and go on alike
+pub first-same : {X : Type 0} (x y : X) (xs ys : List X) → x ∷ xs ≡ y ∷ ys → x ≡ y
+first-same x y xs ys same = cc
+
+pub rest-same : {X : Type 0} (x y : X) (xs ys : List X) → x ∷ xs ≡ y ∷ ys → xs ≡ ys
+rest-same x y xs ys same = cc
+
 -- what is so of each element that the list contains is so of all
 pub All-from_Contains : {X : Type 0} (P : X → Type 0) (xs : List X) → ((x : X) → Contains xs x → P x) → All P xs
 All-from_Contains P xs each = λ k d within. each (get_or xs k d) (Contains-get_or xs k d within)
@@ -240,7 +256,11 @@ pub AllByRecursion-weaker : {X : Type 0} (P Q : X → Type 0) (xs : List X) → 
 AllByRecursion-weaker P Q [] weaker all = tt
 AllByRecursion-weaker P Q (x ∷ xs) weaker all = (weaker x all.0, AllByRecursion-weaker P Q xs weaker all.1)
 
--- what is so of each item is so of the last ones
+-- what is so of each item is so of the first ones, and of the last ones
+pub AllByRecursion-prefix : {X : Type 0} (P : X → Type 0) (xs ys : List X) → AllByRecursion P (xs ++ ys) → AllByRecursion P xs
+AllByRecursion-prefix P [] ys all = tt
+AllByRecursion-prefix P (x ∷ xs) ys all = (all.0, AllByRecursion-prefix P xs ys all.1)
+
 pub AllByRecursion-suffix : {X : Type 0} (P : X → Type 0) (xs ys : List X) → AllByRecursion P (xs ++ ys) → AllByRecursion P ys
 AllByRecursion-suffix P [] ys all = all
 AllByRecursion-suffix P (x ∷ xs) ys all = AllByRecursion-suffix P xs ys all.1

@@ -2,6 +2,10 @@
 use Rattle.std.proofs.Common.{◌≡◌, Option, None, Some, MatchOption, refl}
 use Rattle.std.specs.Option.{IfNone}
 
+-- what is given twice is the same
+pub Some-same : {A : Type 0} {x y : A} → Some x ≡ Some y → x ≡ y
+Some-same same = cc
+
 -- it is nothing, and what is told then is so
 pub match-none : {A : Type 0} (o : Option A) (P : Type 0) (Q : A → Type 0) → MatchOption o P Q → ((x : A) → o ≡ Some x → ⊥) → P
 match-none None P Q holds not = holds

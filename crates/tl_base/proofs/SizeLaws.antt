@@ -1,14 +1,14 @@
 -- Columns and rows: where they end, what all take together, and that their places tell their sizes.
 use Rattle.std.proofs.Common.{◌≡◌, ℕ, ◌+◌, ◌-◌, ◌*◌, ◌^◌, ◌<◌, ◌≤◌, zero, suc, List, [], ◌∷◌, length, get_or, take, drop, sum}
 use Rattle.std.proofs.Common.{refl, ap, arith}
-use Rattle.std.specs.List.{slice_range}
+use Rattle.std.specs.List.{AllByRecursion, slice_range}
 use Rattle.std.proofs.lemmas.List.{take_all, get_or_default}
 use Rattle.std.proofs.lemmas.List.Sums.{sum_by-cons, sum_by-take-le, sum_by-take-drop, sum_by-le}
 use Rattle.tl_base.specs.declared.limits.TheConstants.{MAX_ROWS}
 use Rattle.tl_base.specs.declared.style.Style.{Style}
 use Rattle.tl_base.specs.declared.style.Style.TheVariants.{Plain, Compact, Frame}
 use Rattle.tl_base.specs.Style.{row_gap_of, edge_of}
-use Rattle.tl_base.proofs.Sums.{sum-cons}
+use Rattle.tl_base.proofs.Sums.{sum-cons, sum-within}
 use Rattle.tl_base.specs.Sizes.{position, room, total}
 
 -- ---- the total, by the place where the last one ends
@@ -106,6 +106,10 @@ room-total gap edge sizes left right ahead within =
 pub sum-total : (gap edge : ℕ) (sizes : List ℕ) → sum sizes ≤ total gap edge sizes
 sum-total gap edge [] = omega arith
 sum-total gap edge (size ∷ sizes) = omega (arith, sum-cons size sizes)
+
+-- and none of them takes more than the whole may
+pub total-within : (gap edge most : ℕ) (sizes : List ℕ) → total gap edge sizes ≤ most → AllByRecursion (λ size. size ≤ most) sizes
+total-within gap edge most sizes within = sum-within most sizes (omega (arith, sum-total gap edge sizes, within))
 
 -- the next place is a size and a gap further
 pub position-next : (gap : ℕ) (sizes : List ℕ) (k : ℕ) → k < length sizes →

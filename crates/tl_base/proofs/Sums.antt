@@ -1,7 +1,7 @@
 -- Sums of lists of numbers, and of their prefixes.
 use Rattle.std.proofs.Common.{◌≡◌, ℕ, zero, suc, ◌+◌, ◌≤◌, List, [], ◌∷◌, take, arith}
 use Rattle.std.specs.Prelude.{sum}
-use Rattle.std.specs.List.{AllZip}
+use Rattle.std.specs.List.{AllByRecursion, AllZip}
 use Rattle.std.proofs.lemmas.List.Sums.{sum_by-cons}
 
 -- the sum of one number
@@ -11,6 +11,12 @@ sum-one n = omega (arith, sum_by-cons (λ x. x) n [])
 -- the sum of a number and of others
 pub sum-cons : (n : ℕ) (ns : List ℕ) → sum (n ∷ ns) ≡ n + sum ns
 sum-cons n ns = sum_by-cons (λ x. x) n ns
+
+-- none of some numbers is greater than their sum may be
+pub sum-within : (most : ℕ) (ns : List ℕ) → sum ns ≤ most → AllByRecursion (λ n. n ≤ most) ns
+sum-within most [] within = tt
+sum-within most (n ∷ ns) within =
+    (omega (arith, sum-cons n ns, within), sum-within most ns (omega (arith, sum-cons n ns, within)))
 
 -- where each number is at most the other at its place, so are the sums of all of them
 pub sum-le : (low high : List ℕ) → AllZip (λ m n. m ≤ n) low high → sum low ≤ sum high

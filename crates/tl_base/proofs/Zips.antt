@@ -29,6 +29,17 @@ AllZip-get_or R (a ∷ xs) [] k x y all within = absurd all
 AllZip-get_or R (a ∷ xs) (b ∷ ys) zero x y all within = all.0
 AllZip-get_or R (a ∷ xs) (b ∷ ys) (suc k) x y all within = AllZip-get_or R xs ys k x y all.1 (omega arith)
 
+-- what holds at each place of two lists that are of one length
+pub AllZip-from_places : {A B : Type 0} (R : A → B → Type 0) (xs : List A) (ys : List B) → length xs ≡ length ys →
+    ((i : ℕ) (d : A) (e : B) → i < length xs → R (get_or xs i d) (get_or ys i e)) → AllZip R xs ys
+AllZip-from_places R [] [] long each = tt
+AllZip-from_places R [] (y ∷ ys) long each = absurd (omega (arith, long))
+AllZip-from_places R (x ∷ xs) [] long each = absurd (omega (arith, long))
+AllZip-from_places R (x ∷ xs) (y ∷ ys) long each = (
+  each 0 x y (omega arith),
+  AllZip-from_places R xs ys (omega (arith, long)) (λ i d e within. each (suc i) d e (omega (arith, within))),
+)
+
 -- what holds of two lists place by place, weakened
 pub AllZip-weaker : {A B : Type 0} (P Q : A → B → Type 0) (xs : List A) (ys : List B) → ((x : A) (y : B) → P x y → Q x y) →
     AllZip P xs ys →

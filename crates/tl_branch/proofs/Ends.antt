@@ -1,9 +1,10 @@
 -- The end of the search: the least of the bounds that are left open, and what is learnt.
-use Rattle.std.proofs.Common.{◌≡◌, ℕ, ◌+◌, ◌<◌, min, Bool, true, false, List, [], ◌∷◌, inl, inr}
-use Rattle.std.proofs.Common.{suc, length, get_or, Option, Some, None, refl, sym, ap, ◌∙◌, subst, arith}
-use Rattle.std.specs.List.{All, AllByRecursion, Contains}
+use Rattle.std.proofs.Common.{◌≡◌, ℕ, ◌+◌, ◌<◌, min, Bool, true, false, List, [], inl, inr}
+use Rattle.std.proofs.Common.{length, get_or, Option, Some, None, refl, sym, ap, ◌∙◌, subst, arith}
+use Rattle.std.specs.List.{Contains}
 use Rattle.std.proofs.lemmas.Bool.{cases_lt}
-use Rattle.tl_base.proofs.Members.{Contains-first, Contains-none}
+use Rattle.std.proofs.lemmas.List.Elements.{recursion_from_All}
+use Rattle.tl_base.proofs.Members.{Contains-none, none-Contains}
 use Rattle.tl_problem.specs.Problem.{ProblemModel}
 use Rattle.tl_problem.specs.Agreement.{LowIsHigh}
 use Rattle.tl_problem.specs.Zones.{InZone}
@@ -154,15 +155,11 @@ proves-grown problem old new grown proves z bound stands none is =
           let never : Some (line.0) ≡ None = sym line.1 ∙ none in
           absurd cc
 
-nothing-in : (xs : List Bound) → ((x : Bound) → Contains xs x → ⊥) → xs ≡ []
-nothing-in [] none = refl
-nothing-in (x ∷ xs) none = absurd (none x (Contains-first x xs))
-
 -- the whole has a line only where the last nogood has no bounds
 pub whole-ends : (problem : ProblemModel) (l : Learning) → IsLearning problem l → HasLine l.lines.items 0 → l.done ≡ false → ⊥
 whole-ends problem l is line going =
     let of_zone = is.lines.each 0 line.0 line.1 in
-    is.going going line.0 of_zone.there (nothing-in (get_or (log_nogoods problem l) line.0 []) (λ b has. Contains-none b
+    is.going going line.0 of_zone.there (none-Contains (get_or (log_nogoods problem l) line.0 []) (λ b has. Contains-none b
     (subst (λ (bs : List Bound). Contains bs b) (zero-bounds problem l.arena.trace is.arena.trace_of) (of_zone.among b has))))
 
 pub ended-by : (l : Learning) (done : Bool) → l.done ≡ done → (l.done ≡ false → ⊥) → l.done ≡ true
@@ -217,13 +214,9 @@ module _ (problem : ProblemModel) (l : Learning) (is : IsLearning problem l) whe
     last = (is.ended done).last;
   }
 
-  all-by_recursion : {X : Type 0} (P : X → Type 0) (xs : List X) → All P xs → AllByRecursion P xs
-  all-by_recursion P [] all = tt
-  all-by_recursion P (x ∷ xs) all = (all 0 x (omega arith), all-by_recursion P xs (λ i d within. all (suc i) d (omega arith)))
-
   pub log-writable : IsLogWritable l.log
   log-writable = (
-    all-by_recursion IsLineShaped l.log (λ k d within. (is.lines_good k d within).writable.shaped),
+    recursion_from_All IsLineShaped l.log (λ k d within. (is.lines_good k d within).writable.shaped),
     all-flat_map IsPieceInRange line_pieces l.log (λ k d within. (is.lines_good k d within).writable.within),
   )
 

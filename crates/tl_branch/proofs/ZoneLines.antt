@@ -2,7 +2,7 @@
 -- are cut, by the lines of their parts. And lines of a zone's bounds can be written.
 use Rattle.std.proofs.Common.{◌≡◌, ℕ, ◌+◌, ◌*◌, ◌<◌, ◌≤◌, ◌⊎◌, nat_lt, if◌then◌else◌, List, [], ◌∷◌}
 use Rattle.std.proofs.Common.{◌++◌, ◌||◌, ◌&&◌, ◌==◌, IsTrue, inl, inr, length, get_or, Option, Some, None, refl, sym, ap, ◌∙◌}
-use Rattle.std.proofs.Common.{subst, arith, codes}
+use Rattle.std.proofs.Common.{subst, arith}
 use Rattle.std.specs.List.{All, AllPairs, AllByRecursion, Contains, flat_map}
 use Rattle.std.proofs.lemmas.Bool.Decides.{nat_tests}
 use Rattle.std.proofs.lemmas.List.Elements.{All-nil, All-cons, All-contains, Contains-append_cases}
@@ -32,7 +32,7 @@ use Rattle.tl_cert.specs.declared.trace.CutAt.{CutAt}
 use Rattle.tl_cert.specs.Implied.{IsLeft, Implied, OneLeft}
 use Rattle.tl_cert.specs.Lines.{nogood_at, IsGoodLine}
 use Rattle.tl_cert.specs.Nogoods.{at_most, at_least, zone_bounds, nogood_bounds, NamesAreThere}
-use Rattle.tl_cert.specs.Pieces.{character, number, word, IsPieceInRange, AllWithin}
+use Rattle.tl_cert.specs.Pieces.{character, word, IsPieceInRange, AllWithin}
 use Rattle.tl_cert.specs.Text.{space, fire_pieces, end_word, bound_pieces, bounds_pieces, AreInOrder}
 use Rattle.tl_cert.specs.Text.{side_sign}
 use Rattle.tl_cert.specs.Traces.{IsTraceOf, IsZoneOf, zone_of}
@@ -43,7 +43,7 @@ use Rattle.tl_cert.proofs.ZoneBounds.{bound-of_range, Contains-given}
 use Rattle.tl_cert.proofs.reading.Words.{within-word}
 use Rattle.tl_solve.specs.Arenas.{IsBoundFound}
 use Rattle.tl_solve.proofs.Firing.{left-inside, inside-left, lower-implied, upper-implied, lower-but_one}
-use Rattle.tl_solve.proofs.Writable.{all-flat_map}
+use Rattle.tl_solve.proofs.Writable.{all-flat_map, fire-within}
 use Rattle.tl_store.specs.Stores.{BoundComesFirst, bound_place, side_place}
 use Rattle.tl_branch.specs.inner.Learnings.{IsLineWritable, line_of}
 
@@ -196,11 +196,6 @@ module _ (problem : ProblemModel) (sound : IsSound problem) (trace : List CutAt)
         ]
 
 -- ---- lines that can be written
-
-fire-within : (f : ℕ) → f ≤ MAX_LINE → AllWithin (fire_pieces f)
-fire-within f small =
-    AllByRecursion-append IsPieceInRange (word (codes " @")) (number 0 MAX_LINE f ∷ []) (within-word (codes " @"))
-    ((omega arith, small), tt)
 
 -- what follows the nogood in a line
 tail-within : (fires : List ℕ) (end : End) → All (λ f. f ≤ MAX_LINE) fires →

@@ -2,14 +2,14 @@
 use Rattle.std.proofs.Common.{◌≡◌, ℕ, ◌+◌, ◌/◌, ◌%◌, ◌≤◌, ◌<◌, List, [], ◌∷◌, ◌++◌, length, get_or, take, sym, ap, ◌∙◌}
 use Rattle.std.proofs.Common.{append_assoc, arith}
 use Rattle.std.specs.List.{flat_map}
-use Rattle.std.proofs.lemmas.List.{append-nil, take_more, get_or_default}
-use Rattle.std.proofs.lemmas.List.Concat.{flat_map-append}
+use Rattle.std.proofs.lemmas.List.{get_or_default}
 use Rattle.std.specs.Prelude.{codes}
 use Rattle.tl_base.specs.declared.chain.Chain.{Chain}
 use Rattle.tl_cert.specs.declared.log.LogLine.{LogLine}
 use Rattle.tl_cert.specs.declared.section.Section.{Section}
 use Rattle.tl_cert.specs.declared.certificate.Certificate.{Certificate}
 use Rattle.tl_base.specs.declared.limits.TheConstants.{MAX_PAGE_WIDTH, MAX_BUDGET}
+use Rattle.tl_base.proofs.Taken.{joined_more}
 use Rattle.tl_cert.specs.Pieces.{TextPiece, spell, numeral, word, character, field}
 use Rattle.tl_cert.specs.Text.{space, line_feed, spaced, chain_pieces, entry_pieces, cut_pieces, nogood_pieces, fire_pieces}
 use Rattle.tl_cert.specs.Text.{end_word, line_pieces, section_head, section_pieces, claim_pieces, version_word, style_field}
@@ -25,10 +25,7 @@ pub written_more : {X : Type 0} (f : X → List TextPiece) (xs : List X) (i : �
     → out ≡ old ++ spell (flat_map f (take i xs))
     → new ≡ out ++ spell (f x) → new ≡ old ++ spell (flat_map f (take (i + 1) xs))
 written_more f xs i x old out new there is so_far more =
-    let taken : take (i + 1) xs ≡ take i xs ++ x ∷ [] = take_more xs i x there ∙ ap (λ y. take i xs ++ y ∷ []) (sym is) in
-    let whole : flat_map f (take (i + 1) xs) ≡ flat_map f (take i xs) ++ f x =
-    ap (flat_map f) taken ∙ flat_map-append f (take i xs) (x ∷ []) ∙ ap (λ (ps : List TextPiece). flat_map f (take i xs) ++ ps)
-    (append-nil (f x)) in
+    let whole = joined_more f xs i x x there is in
     more ∙ ap (λ (t : List ℕ). t ++ spell (f x)) so_far ∙ append_assoc old (spell (flat_map f (take i xs))) (spell (f x))
     ∙ ap (λ (t : List ℕ). old ++ t) (sym (ap spell whole ∙ spell-append (flat_map f (take i xs)) (f x)))
 

@@ -1,5 +1,5 @@
 -- The zones of a trace that stand are one more than its cuts, and partition the class vectors of the problem.
-use Rattle.std.proofs.Common.{◌≡◌, ◌≢◌, ℕ, ◌+◌, ◌-◌, ◌*◌, ◌<◌, ◌≤◌, zero, suc, Bool, true, false, not, nat_eq, List, []}
+use Rattle.std.proofs.Common.{◌≡◌, ◌≢◌, ℕ, ◌+◌, ◌*◌, ◌<◌, ◌≤◌, zero, suc, Bool, true, false, not, nat_eq, List, []}
 use Rattle.std.proofs.Common.{◌∷◌, ◌++◌, ◌⊎◌, inl, inr, length, map, filter, get_or, set, refl, sym, ap, ◌∙◌, subst, arith}
 use Rattle.std.proofs.Common.{length-append, length-set}
 use Rattle.std.specs.List.{All, AllPairs, Contains, sum_by}
@@ -11,14 +11,12 @@ use Rattle.tl_base.proofs.Members.{All-from_Contains, Contains-first, Contains-l
 use Rattle.tl_base.proofs.Members.{Contains-filter}
 use Rattle.tl_base.proofs.Members.{filter-Contains, AllPairs-none, AllPairs-cons, AllPairs-head, AllPairs-tail, AllPairs-append}
 use Rattle.tl_base.proofs.Members.{AllPairs-filter}
-use Rattle.tl_problem.specs.declared.cell.Span.{Span}
 use Rattle.tl_problem.specs.declared.zone.Range.{Range}
 use Rattle.tl_problem.specs.Problem.{ProblemModel}
 use Rattle.tl_problem.specs.Sound.{IsSound}
-use Rattle.tl_problem.specs.Spans.{spans_of, classes_of, product}
 use Rattle.tl_problem.specs.Zones.{range, range_at, IsZone, whole_zone, lower_part, upper_part, IsVector, HasVector}
-use Rattle.tl_problem.proofs.SpanLaws.{classes-some}
-use Rattle.tl_problem.proofs.ZoneLaws.{cases_eq, whole-range, whole-is_zone}
+use Rattle.tl_problem.proofs.ZoneLaws.{cases_eq, whole-is_zone, whole-vector}
+use Rattle.tl_problem.proofs.ZoneSizes.{size, size-cut, size-some, size-whole}
 use Rattle.tl_cert.specs.declared.trace.CutAt.{CutAt}
 use Rattle.tl_cert.specs.Traces.{zone_at, Stands, IsCut, IsTrace}
 use Rattle.tl_cert.specs.Counting.{AreStanding, PartsVectors}
@@ -223,15 +221,6 @@ vector-unset zone s r vector there from upto has t within =
     ]
 
 module _ (problem : ProblemModel) (sound : IsSound problem) where
-  -- the whole has every vector
-  whole-vector : (vector : List ℕ) → IsVector problem vector → HasVector (whole_zone problem) vector
-  whole-vector vector is s within =
-      let spans = (whole-is_zone problem).spans in
-      let inside : s < length (spans_of problem) = omega (arith, within, spans) in
-      let class = is.classes s (omega (arith, inside, is.spans)) in
-      subst (λ q. (q.first ≤ get_or vector s 0) × (get_or vector s 0 ≤ q.last)) (sym (whole-range problem s inside))
-      (omega arith, omega (arith, class))
-
   -- the first classes of a zone's ranges are a vector in it
   first-vector : (zone : List Range) → IsZone problem zone → (vector : List ℕ) × IsVector problem vector × HasVector zone vector
   first-vector zone is = (
@@ -262,7 +251,7 @@ module _ (problem : ProblemModel) (sound : IsSound problem) where
   vector-in_some : (trace : List CutAt) → IsTrace (whole_zone problem) trace → InSome trace
   unfolding InSome
   vector-in_some trace is = trace-by (whole_zone problem) InSome
-      (λ vector of. (0, record { there = omega arith; not_cut = λ k d within. absurd (omega arith) }, whole-vector vector of))
+      (λ vector of. (0, record { there = omega arith; not_cut = λ k d within. absurd (omega arith) }, whole-vector problem vector of))
       more trace is where
         more : (trace : List CutAt) (cut : CutAt) → IsTrace (whole_zone problem) trace → IsCut (whole_zone problem) trace cut →
             InSome trace →
@@ -366,52 +355,7 @@ module _ (problem : ProblemModel) (sound : IsSound problem) where
               joined (inr (has, inr high)) (inr (also, inl low)) = absurd (omega (arith, low.1, high.1))
               joined (inr (has, inr high)) (inr (also, inr higher)) = omega (arith, high.0, higher.0)
 
--- ---- how many vectors a zone has
-
--- how many classes a range has, and how many vectors a zone has
-wide : Range → ℕ
-wide r = r.last + 1 - r.first
-
-size : List Range → ℕ
-size zone = product (map wide zone)
-
--- a range cut in two separates the vectors
-size-parts : (zone : List Range) (s : ℕ) (a b : Range) → s < length zone → wide a + wide b ≡ wide (range_at zone s) →
-    size (set zone s a) + size (set zone s b) ≡ size zone
-unfolding size
-size-parts [] s a b there parts = absurd (omega arith)
-size-parts (r ∷ zone) zero a b there parts = times_sum (wide a) (wide b) (wide r) (product (map wide zone)) parts where
-  times_sum : (x y z n : ℕ) → x + y ≡ z → x * n + y * n ≡ z * n
-  times_sum x y z n sum = rw (← sum) (grind arith)
-size-parts (r ∷ zone) (suc s) a b there parts =
-    let rest = size-parts zone s a b (omega arith) parts in
-    spread (wide r) (product (map wide (set zone s a))) (product (map wide (set zone s b))) (product (map wide zone)) rest where
-      spread : (n x y z : ℕ) → x + y ≡ z → n * x + n * y ≡ n * z
-      spread n x y z sum = rw (← sum) (grind arith)
-
--- a zone in which each range has a class has a vector
-size-some : (zone : List Range) → ((s : ℕ) → s < length zone → (range_at zone s).first ≤ (range_at zone s).last) → 1 ≤ size zone
-unfolding size wide
-size-some [] each = omega arith
-size-some (r ∷ zone) each = times_some (r.last + 1 - r.first) (product (map wide zone)) (let first = each 0 (omega arith) in
-    omega (arith, first)) (size-some zone (λ s within. each (suc s) (omega arith))) where
-      times_some : (m n : ℕ) → 1 ≤ m → 1 ≤ n → 1 ≤ m * n
-      times_some m n one other = grind arith
-
--- the whole has as many as there are class vectors
-size-whole : (problem : ProblemModel) → size (whole_zone problem) ≡ product
-    (map (λ columns. length (classes_of problem columns)) (spans_of problem))
-unfolding size wide
-size-whole problem = each (spans_of problem) where
-  each : (spans : List Span) →
-      product (map wide (map (λ columns. range 0 (length (classes_of problem columns) - 1)) spans)) ≡ product
-      (map (λ columns. length (classes_of problem columns)) spans)
-  each [] = refl
-  each (columns ∷ spans) =
-      let here : length (classes_of problem columns) - 1 + 1 - 0 ≡ length (classes_of problem columns) =
-      omega (arith, classes-some problem columns) in
-      ap (λ n. n * product (map wide (map (λ c. range 0 (length (classes_of problem c) - 1)) spans))) here ∙ ap
-      (λ n. length (classes_of problem columns) * n) (each spans)
+-- ---- how many zones stand
 
 -- the numbers of a list of terms of at least one are no more than their sum
 length-le_sum : (g : ℕ → ℕ) (zs : List ℕ) → All (λ z. 1 ≤ g z) zs → length zs ≤ sum_by g zs
@@ -432,7 +376,6 @@ module _ (problem : ProblemModel) (sound : IsSound problem) where
     sizes : sum_by (λ z. size (zone_at (whole_zone problem) trace z)) standing ≡ size (whole_zone problem)
 
   counted : (trace : List CutAt) → IsTrace (whole_zone problem) trace → Counted trace
-  unfolding wide
   counted trace is = trace-by (whole_zone problem) Counted none more trace is where
     none : Counted []
     none = record {
@@ -459,9 +402,7 @@ module _ (problem : ProblemModel) (sound : IsSound problem) where
         let whole = whole_zone problem in
         let parent = zone_at whole trace cut.zone in
         let zone = zones-are problem sound trace is cut.zone now.stands.there in
-        let parts = size-parts parent cut.span (range (range_at parent cut.span).first cut.class)
-        (range (cut.class + 1) (range_at parent cut.span).last) (cut-span problem sound trace cut is now)
-        (omega (arith, now.lower, now.upper)) in
+        let parts = size-cut parent cut.span cut.class (cut-span problem sound trace cut is now) now.lower now.upper in
         record {
           standing = standing-more trace cut before.standing;
           are = standing-are whole trace cut is now before.standing before.are;

@@ -10,6 +10,14 @@ use Rattle.tl_cert.specs.declared.log.Side.TheVariants.{Most, Least}
 use Rattle.tl_cert.specs.Implied.{IsLeft, Implied, OneLeft}
 use Rattle.tl_cert.specs.Lines.{Fires}
 
+-- a bound is its span, its side and its width
+pub same-bound : (a b : Bound) → a.span ≡ b.span → a.side ≡ b.side → a.width ≡ b.width → a ≡ b
+same-bound a b span side width = ap (λ s. bound_of s a.side a.width) span ∙ ap (λ s. bound_of b.span s a.width) side ∙ ap
+    (bound_of b.span b.side) width
+  where
+    bound_of : ℕ → Side → ℕ → Bound
+    bound_of span side width = record { span = span; side = side; width = width }
+
 -- two bounds are the same or not
 pub bound-decides : (a b : Bound) → (a ≡ b) ⊎ (a ≢ b)
 bound-decides a b =
@@ -19,7 +27,7 @@ bound-decides a b =
         | inr apart ↦ inr (λ same. apart (ap (λ c. c.width) same))
         | inl width ↦ elim (sides a.side b.side) [
           | inr apart ↦ inr (λ same. apart (ap (λ c. c.side) same))
-          | inl side ↦ inl (made span side width)
+          | inl side ↦ inl (same-bound a b span side width)
         ]
       ]
     ] where
@@ -28,13 +36,6 @@ bound-decides a b =
       sides Most Least = inr (λ same. cc)
       sides Least Most = inr (λ same. cc)
       sides Least Least = inl refl
-
-      bound_of : ℕ → Side → ℕ → Bound
-      bound_of span side width = record { span = span; side = side; width = width }
-
-      made : a.span ≡ b.span → a.side ≡ b.side → a.width ≡ b.width → a ≡ b
-      made span side width = ap (λ s. bound_of s a.side a.width) span ∙ ap (λ s. bound_of b.span s a.width) side ∙ ap
-          (bound_of b.span b.side) width
 
 module _ (problem : ProblemModel) (given : List Bound) where
   -- of a nogood no two bounds are the one that is left

@@ -35,8 +35,8 @@ module _ (problem : ProblemModel) (Among : List ℕ → Type 0) (nogood : List B
         | inr last ↦ elim (Contains-cases bound [] b last) [ inl same ↦ new same | inr later ↦ absurd (Contains-none b later) ]
       ]
 
-  two-longer : TwoLeft problem Among nogood → TwoLeft problem Among longer
-  two-longer h = record {
+  pub left-more : TwoLeft problem Among nogood → TwoLeft problem Among longer
+  left-more h = record {
     one = h.one;
     other = h.other;
     among = has-old h.one h.among;
@@ -59,7 +59,7 @@ module _ (problem : ProblemModel) (Among : List ℕ → Type 0) (nogood : List B
       HasLeft problem Among longer left
   left-implied Nothing implied h = All-push (Implied problem Among) nogood bound h implied
   left-implied (One b) implied h = one-implied b h implied
-  left-implied More implied h = two-longer h
+  left-implied More implied h = left-more h
 
   -- any other is left
   pub left-first : (Implied problem Among bound → ⊥) → All (Implied problem Among) nogood → OneLeft problem Among longer bound
@@ -89,9 +89,6 @@ module _ (problem : ProblemModel) (Among : List ℕ → Type 0) (nogood : List B
     not_implied = h.not_implied;
     not_implied_too = not;
   }
-
-  pub left-more : TwoLeft problem Among nogood → TwoLeft problem Among longer
-  left-more h = two-longer h
 
 -- ---- what is left of a nogood, bound by bound of another list
 

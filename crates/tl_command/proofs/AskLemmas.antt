@@ -4,6 +4,7 @@ use Rattle.std.proofs.Common.{arith}
 use Rattle.std.specs.List.{flat_map}
 use Rattle.std.proofs.lemmas.Fmt.{decimal_injective}
 use Rattle.std.proofs.lemmas.List.Concat.{flat_map-cons}
+use Rattle.tl_base.proofs.Members.{first-same, rest-same}
 use Rattle.tl_command.specs.declared.command.Command.{Command}
 use Rattle.tl_command.specs.declared.command.Command.TheVariants.{Lay, Narrow, Tidy, Check, Demo}
 use Rattle.tl_command.specs.declared.options.Choice.{Choice}
@@ -15,7 +16,6 @@ use Rattle.tl_command.specs.Options.{name_of, option_words, AreOptions}
 use Rattle.tl_command.specs.inner.Parts.{IsDashedAtFirst, BeginsWithCommand, IsSplit}
 use Rattle.tl_command.proofs.NameLemmas.{names_apart}
 use Rattle.tl_command.proofs.OptionLemmas.{options_once}
-use Rattle.tl_command.proofs.WordLemmas.{first_same, rest_same}
 
 -- a word spells at most one command
 pub command_once : (one other : Command) → word_of_command one ≡ word_of_command other → one ≡ other
@@ -40,11 +40,11 @@ pub opening_once : (words : List (List ℕ)) (command command2 : Command) (numbe
     (command ≡ command2) × (number ≡ number2) × (more ≡ more2)
 opening_once words command command2 number number2 more more2 one other =
     let all = sym one.spelled ∙ other.spelled in
-    let later = rest_same _ _ _ _ all in (
-      command_once command command2 (first_same _ _ _ _ all),
+    let later = rest-same _ _ _ _ all in (
+      command_once command command2 (first-same _ _ _ _ all),
       decimal_injective number number2 (number_small command number one.in_range) (number_small command2 number2 other.in_range)
-          (first_same _ _ _ _ later),
-      rest_same _ _ _ _ later,
+          (first-same _ _ _ _ later),
+      rest-same _ _ _ _ later,
     )
 
 -- and the names among them end in one place at most

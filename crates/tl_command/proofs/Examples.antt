@@ -1,10 +1,10 @@
 -- The definitions on small cases.
 use Rattle.std.proofs.Common.{◌≡◌, ◌≢◌, ◌↔◌, ℕ, false, List, [], ◌∷◌, ◌++◌, length, get_or, None, Some, refl, ap, subst}
-use Rattle.std.proofs.Common.{codes, decimal, arith, inl, inr, ◌∙◌}
+use Rattle.std.proofs.Common.{codes, decimal, arith, ◌∙◌}
 use Rattle.std.specs.Prelude.{IsTrue, Contains}
 use Rattle.std.proofs.lemmas.Fmt.{decimal_digit, decimal_step}
 use Rattle.std.proofs.lemmas.List.Elements.{All-nil, All-cons}
-use Rattle.tl_base.proofs.Members.{AllPairs-none, AllPairs-cons, Contains-first, Contains-cases, Contains-none}
+use Rattle.tl_base.proofs.Members.{AllPairs-none, AllPairs-cons, Contains-first, Contains-one}
 use Rattle.tl_base.specs.declared.style.Style.TheVariants as styles
 use Rattle.tl_command.specs.declared.command.Command.TheVariants.{Check, Demo}
 use Rattle.tl_command.specs.declared.options.Choice.{Choice}
@@ -15,10 +15,6 @@ use Rattle.tl_command.specs.Options.{name_of, option_words, speaks_of_csv, IsOpt
 use Rattle.tl_command.proofs.AskLemmas.{no_options}
 use Rattle.tl_command.proofs.NameLemmas.{names_none, names_cons}
 use Rattle.tl_command.proofs.OptionLemmas.{letters, read_none, read_all, read_stuck}
-
--- what a list of one holds
-only : {X : Type 0} (x y : X) → Contains (x ∷ []) y → x ≡ y
-only x y has = elim (Contains-cases x [] y has) [ inl same ↦ same | inr none ↦ absurd (Contains-none y none) ]
 
 -- no option
 abbrev nothing : Options
@@ -57,9 +53,9 @@ gives_compact (choices.Style style) = (
   λ is. let same : styles.Compact ≡ style = cc in
       subst (λ s. Contains (choices.Style styles.Compact ∷ []) (choices.Style s)) same
       (Contains-first (choices.Style styles.Compact) []),
-  λ has. let same : choices.Style styles.Compact ≡ choices.Style style = only _ _ has in cc,
+  λ has. let same : choices.Style styles.Compact ≡ choices.Style style = Contains-one _ _ has in cc,
 )
-gives_compact choice = (λ is. absurd cc, λ has. let same : choices.Style styles.Compact ≡ choice = only _ _ has in absurd cc)
+gives_compact choice = (λ is. absurd cc, λ has. let same : choices.Style styles.Compact ≡ choice = Contains-one _ _ has in absurd cc)
 
 -- none of them speaks of a CSV file
 none_of_csv : (choice : Choice) → IsGiven compact choice → IsTrue (speaks_of_csv choice) → ⊥

@@ -16,9 +16,8 @@ use Rattle.std.proofs.lemmas.List.Sums.{take_while-cons}
 use Rattle.tl_base.specs.declared.limits.TheConstants.{MAX_COLUMNS, MAX_PAGE_WIDTH}
 use Rattle.tl_base.specs.Number.{NumberStandsAt}
 use Rattle.tl_base.proofs.Decimals.{own, stands_once}
-use Rattle.tl_base.proofs.Members.{Contains-first}
+use Rattle.tl_base.proofs.Members.{Contains-first, first-same, rest-same}
 use Rattle.tl_command.specs.Options.{AreFloors, comma_numbers, list_word}
-use Rattle.tl_command.proofs.WordLemmas.{first_same, rest_same}
 
 -- ---- where a number ends
 
@@ -122,7 +121,7 @@ follow [] floors rest are_read are is e = (floors, refl, e)
 follow (one ∷ read) [] rest are_read are is e = absurd (omega (arith, ap length e))
 follow (one ∷ read) (other ∷ floors) rest are_read are is e =
     let joined : decimal other ++ comma_numbers floors ≡ decimal one ++ (comma_numbers read ++ rest) =
-    rest_same 44 44 _ _ (sym (comma_cons other floors) ∙ e ∙ ap (λ (bs : List ℕ). bs ++ rest) (comma_cons one read)
+    rest-same 44 44 _ _ (sym (comma_cons other floors) ∙ e ∙ ap (λ (bs : List ℕ). bs ++ rest) (comma_cons one read)
     ∙ ap (λ (bs : List ℕ). 44 ∷ bs) (append_assoc (decimal one) (comma_numbers read) rest)) in
     let split = number_split other one (comma_numbers floors) (comma_numbers read ++ rest)
     (All-head (λ (floor : ℕ). floor ≤ MAX_PAGE_WIDTH) other floors are)
@@ -175,7 +174,7 @@ module _ (bytes read : List ℕ) (at : ℕ) (so_far : HasReadFloors bytes read a
         by_later [] same rest = absurd (omega (arith, ap length rest))
         by_later (next ∷ later) same rest =
             let left : drop at bytes ≡ decimal next ++ comma_numbers later =
-            sym (rest_same 44 44 _ _ (sym (comma_cons next later) ∙ rest)) in
+            sym (rest-same 44 44 _ _ (sym (comma_cons next later) ∙ rest)) in
             let small : next ≤ MAX_PAGE_WIDTH = All-contains (λ (floor : ℕ). floor ≤ MAX_PAGE_WIDTH) floors next are.narrow
             (subst (λ (all : List ℕ). Contains all next) (sym same)
             (Contains-append_right read (next ∷ later) next (Contains-first next later))) in
@@ -226,7 +225,7 @@ module _ (bytes read : List ℕ) (at : ℕ) (so_far : HasReadFloors bytes read a
         by_later on.later (after ∙ drop_more bytes past 0 more) where
           by_later : (later : List ℕ) → comma_numbers later ≡ get_or bytes past 0 ∷ drop (past + 1) bytes → ⊥
           by_later [] e = absurd (omega (arith, ap length e))
-          by_later (next ∷ later) e = apart (first_same _ _ _ _ (sym e ∙ comma_cons next later))
+          by_later (next ∷ later) e = apart (first-same _ _ _ _ (sym e ∙ comma_cons next later))
 
     -- and the list where nothing does
     pub all_read : past ≡ length bytes → list_word (read ++ floor ∷ []) ≡ bytes

@@ -2,10 +2,9 @@
 use Rattle.std.proofs.Common.{◌≡◌, ◌≢◌, ℕ, zero, suc, ◌<◌, ◌≤◌, List, [], ◌∷◌, ◌++◌, length, drop, subst, refl, sym, arith}
 use Rattle.std.specs.List.{All}
 use Rattle.std.proofs.lemmas.List.Elements.{All-nil, All-cons, All-head, All-tail}
-use Rattle.tl_base.proofs.Members.{AllPairs-none, AllPairs-cons, AllPairs-head, AllPairs-tail}
+use Rattle.tl_base.proofs.Members.{AllPairs-none, AllPairs-cons, AllPairs-head, AllPairs-tail, first-same, rest-same}
 use Rattle.tl_command.specs.Ask.{IsDashed, IsNoOption, AreNames}
 use Rattle.tl_command.specs.inner.Parts.{IsDashedAtFirst}
-use Rattle.tl_command.proofs.WordLemmas.{first_same, rest_same}
 
 -- no name is a list of names
 pub names_none : AreNames []
@@ -51,15 +50,15 @@ names_apart (name ∷ one) [] fewest most xs ys same few many few2 many2 plain d
 names_apart (name ∷ one) (name2 ∷ other) fewest zero xs ys same few many few2 many2 plain dashed plain2 dashed2 =
     absurd (omega arith)
 names_apart (name ∷ one) (name2 ∷ other) zero (suc most) xs ys same few many few2 many2 plain dashed plain2 dashed2 =
-    let first : name ≡ name2 = first_same name name2 (one ++ xs) (other ++ ys) same in
+    let first : name ≡ name2 = first-same name name2 (one ++ xs) (other ++ ys) same in
     let rest : (one ≡ other) × (xs ≡ ys) = names_apart one other zero most xs ys
-    (rest_same name name2 (one ++ xs) (other ++ ys) same) (omega arith) (omega arith) (omega arith) (omega arith)
+    (rest-same name name2 (one ++ xs) (other ++ ys) same) (omega arith) (omega arith) (omega arith) (omega arith)
     (All-tail IsNoOption name one plain) (λ less. dashed (omega arith)) (All-tail IsNoOption name2 other plain2)
     (λ less. dashed2 (omega arith)) in
     (cc, rest.1)
 names_apart (name ∷ one) (name2 ∷ other) (suc fewest) (suc most) xs ys same few many few2 many2 plain dashed plain2 dashed2 =
-    let first : name ≡ name2 = first_same name name2 (one ++ xs) (other ++ ys) same in
+    let first : name ≡ name2 = first-same name name2 (one ++ xs) (other ++ ys) same in
     let rest : (one ≡ other) × (xs ≡ ys) = names_apart one other fewest most xs ys
-    (rest_same name name2 (one ++ xs) (other ++ ys) same) (omega arith) (omega arith) (omega arith) (omega arith) plain
+    (rest-same name name2 (one ++ xs) (other ++ ys) same) (omega arith) (omega arith) (omega arith) (omega arith) plain
     (λ less. dashed (omega arith)) plain2 (λ less. dashed2 (omega arith)) in
     (cc, rest.1)

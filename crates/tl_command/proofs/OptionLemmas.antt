@@ -9,7 +9,7 @@ use Rattle.std.proofs.lemmas.List.Concat.{flat_map-cons}
 use Rattle.std.proofs.lemmas.Grind.{common_steps}
 use Rattle.std.proofs.lemmas.List.Elements.{All-push, All-nil, All-head, All-tail, All-contains, Contains-push_cases}
 use Rattle.std.proofs.lemmas.List.Elements.{Contains-append_left, Contains-append_right, Contains-push}
-use Rattle.tl_base.proofs.Members.{AllPairs-none, AllPairs-cons, AllPairs-head, AllPairs-tail}
+use Rattle.tl_base.proofs.Members.{AllPairs-none, AllPairs-cons, AllPairs-head, AllPairs-tail, first-same, rest-same}
 use Rattle.tl_base.proofs.Members.{AllPairs-append, Contains-first, Contains-cases, Contains-none}
 use Rattle.tl_base.specs.declared.breaking.Breaking.{Breaking}
 use Rattle.tl_base.specs.declared.breaking.Breaking.TheVariants.{Words, Any}
@@ -27,7 +27,6 @@ use Rattle.tl_command.specs.Options.{name_of, option_words, break_word, search_w
 use Rattle.tl_command.specs.Options.{IsInRange, IsOptionOf, IsGiven, AreOfCsv, AreOptions}
 use Rattle.tl_command.specs.inner.OptionsRead.{HasReadOptions}
 use Rattle.tl_command.proofs.ListLemmas.{list_once}
-use Rattle.tl_command.proofs.WordLemmas.{first_same, rest_same}
 
 -- what an option that is there holds
 pub held : {X : Type 0} (given : Option X) → is_some given ≡ true → (x : X) × (given ≡ Some x)
@@ -59,8 +58,8 @@ search_once one other e = absurd (omega (arith, ap (λ (word : List ℕ). get_or
 value_once : {V : Type 0} (word : V → List ℕ) (option : V → Choice) → ((v w : V) → word v ≡ word w → v ≡ w) → (v w : V)
     (xs ys : List (List ℕ)) → word v ∷ xs ≡ word w ∷ ys → (option v ≡ option w) × (xs ≡ ys)
 value_once word option once v w xs ys e = (
-  ap option (once v w (first_same (word v) (word w) xs ys e)),
-  rest_same (word v) (word w) xs ys e,
+  ap option (once v w (first-same (word v) (word w) xs ys e)),
+  rest-same (word v) (word w) xs ys e,
 )
 
 -- the letters by which the names of options differ
@@ -77,21 +76,21 @@ prefix_free (choices.Breaking breaking) (choices.Breaking breaking2) xs ys small
 prefix_free (choices.Budget budget) (choices.Budget budget2) xs ys small tiny e =
     let after : decimal budget ∷ xs ≡ decimal budget2 ∷ ys = cc in
     let same : budget ≡ budget2 = decimal_injective budget budget2 (omega (arith, small)) (omega (arith, tiny))
-    (first_same (decimal budget) (decimal budget2) xs ys after) in
-    (ap choices.Budget same, rest_same (decimal budget) (decimal budget2) xs ys after)
+    (first-same (decimal budget) (decimal budget2) xs ys after) in
+    (ap choices.Budget same, rest-same (decimal budget) (decimal budget2) xs ys after)
 prefix_free (choices.Search search) (choices.Search search2) xs ys small tiny e =
     value_once search_word choices.Search search_once search search2 xs ys cc
 prefix_free (choices.Workers workers) (choices.Workers workers2) xs ys small tiny e =
     let after : decimal workers ∷ xs ≡ decimal workers2 ∷ ys = cc in
     let same : workers ≡ workers2 = decimal_injective workers workers2 (omega (arith, small.few)) (omega (arith, tiny.few))
-    (first_same (decimal workers) (decimal workers2) xs ys after) in
-    (ap choices.Workers same, rest_same (decimal workers) (decimal workers2) xs ys after)
+    (first-same (decimal workers) (decimal workers2) xs ys after) in
+    (ap choices.Workers same, rest-same (decimal workers) (decimal workers2) xs ys after)
 prefix_free choices.Csv choices.Csv xs ys small tiny e = (refl, cc)
 prefix_free choices.Head choices.Head xs ys small tiny e = (refl, cc)
 prefix_free (choices.Least floors) (choices.Least floors2) xs ys small tiny e =
     let after : list_word floors ∷ xs ≡ list_word floors2 ∷ ys = cc in (
-      ap choices.Least (list_once floors floors2 small tiny (first_same (list_word floors) (list_word floors2) xs ys after)),
-      rest_same (list_word floors) (list_word floors2) xs ys after,
+      ap choices.Least (list_once floors floors2 small tiny (first-same (list_word floors) (list_word floors2) xs ys after)),
+      rest-same (list_word floors) (list_word floors2) xs ys after,
     )
 prefix_free choices.Html choices.Html xs ys small tiny e = (refl, cc)
 prefix_free one other xs ys small tiny e = absurd (omega (arith, ap letters e))

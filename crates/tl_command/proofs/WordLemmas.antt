@@ -21,10 +21,3 @@ all_more P word xs i x spelled within is same before here =
 pub words_cons : {X : Type 0} (word : X → List ℕ) (xs : List X) (x : X) (later : List X) (spelled : List ℕ) → xs ≡ x ∷ later →
     spelled ≡ word x → map word xs ≡ spelled ∷ map word later
 words_cons word xs x later spelled is same = ap (map word) is ∙ ap (λ w. w ∷ map word later) (sym same)
-
--- lists that are the same begin and go on alike
-pub first_same : {X : Type 0} (x y : X) (xs ys : List X) → x ∷ xs ≡ y ∷ ys → x ≡ y
-first_same x y xs ys e = cc
-
-pub rest_same : {X : Type 0} (x y : X) (xs ys : List X) → x ∷ xs ≡ y ∷ ys → xs ≡ ys
-rest_same x y xs ys e = cc

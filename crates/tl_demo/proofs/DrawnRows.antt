@@ -4,6 +4,7 @@ use Rattle.std.proofs.Common.{◌≡◌, ℕ, zero, suc, ◌+◌, ◌<◌, ◌�
 use Rattle.std.proofs.Common.{inr, arith}
 use Rattle.std.specs.Prelude.{if◌then◌else◌}
 use Rattle.std.specs.List.{AllByRecursion}
+use Rattle.tl_base.specs.declared.limits.TheConstants.{MAX_COLSPAN}
 use Rattle.tl_demo.specs.Demo.{DemoCell, Drawn, drawn_number, next_state, words_from, cell_from, cell_before, cells_from}
 use Rattle.tl_demo.specs.Demo.{rows_from}
 use Rattle.tl_demo.specs.Demo.{demo_rows}
@@ -24,6 +25,13 @@ pub some_columns : (cell : DemoCell) → IsDrawnCell cell → 1 ≤ cell.colspan
 some_columns cell is = by_colspan is.colspan
   where
     by_colspan : (cell.colspan ≡ 1) ⊎ (cell.colspan ≡ 2) → 1 ≤ cell.colspan
+    by_colspan (inl one) = omega (arith, one)
+    by_colspan (inr two) = omega (arith, two)
+
+pub few_columns : (cell : DemoCell) → IsDrawnCell cell → cell.colspan ≤ MAX_COLSPAN
+few_columns cell is = by_colspan is.colspan
+  where
+    by_colspan : (cell.colspan ≡ 1) ⊎ (cell.colspan ≡ 2) → cell.colspan ≤ MAX_COLSPAN
     by_colspan (inl one) = omega (arith, one)
     by_colspan (inr two) = omega (arith, two)
 

@@ -7,7 +7,8 @@ use Rattle.std.specs.List.{AllByRecursion}
 use Rattle.std.proofs.lemmas.Bool.{cases_Bool, and_parts, and_right, leb-true, ltb-true, false_from_ne_true}
 use Rattle.std.proofs.lemmas.List.{length-append}
 use Rattle.std.proofs.lemmas.List.Sums.{sum_by-cons}
-use Rattle.tl_base.specs.declared.limits.TheConstants.{MAX_COLSPAN, MAX_ROWS}
+use Rattle.tl_base.specs.declared.limits.TheConstants.{MAX_ROWS}
+use Rattle.tl_base.proofs.Members.{AllByRecursion-append}
 use Rattle.tl_grid.specs.declared.error.GridError.{GridError}
 use Rattle.tl_grid.specs.declared.error.GridError.TheVariants.{Memory, TooManyCells, Overlap, TooManyColumns, TooManyRows}
 use Rattle.tl_grid.specs.declared.shape.Grid.{Grid}
@@ -29,7 +30,7 @@ use Rattle.tl_grid.proofs.Groups.{quiet_on}
 use Rattle.tl_grid.proofs.Passing.{some, any_is_some}
 use Rattle.tl_grid.proofs.Results.{decided}
 use Rattle.tl_demo.specs.Demo.{DemoCell}
-use Rattle.tl_demo.proofs.DrawnRows.{IsDrawnCell, IsDrawnRow, columns_of, some_columns}
+use Rattle.tl_demo.proofs.DrawnRows.{IsDrawnCell, IsDrawnRow, columns_of, some_columns, few_columns}
 
 -- the spans of a cell
 abbrev pub span_in : DemoCell → SpanOf
@@ -78,10 +79,6 @@ record RowAt (y x : ℕ) (s : Forming) : Type 0 where
   low : AllQuiet (y + 1) s.cells
   one : HasNoOverlap s.cells
   free : (x' : ℕ) → x ≤ x' → numbers_over x' y s.cells ≡ []
-
-all_push : {X : Type 0} (P : X → Type 0) (xs : List X) (x : X) → AllByRecursion P xs → P x → AllByRecursion P (xs ++ x ∷ [])
-all_push P [] x all is = (is, tt)
-all_push P (y ∷ xs) x all is = (all.0, all_push P xs x all.1 is)
 
 -- a cell of that colspan, one row high
 abbrev cell_with : ℕ → ℕ → ℕ → ℕ → forming.FormedCell
@@ -147,7 +144,8 @@ with_one number y x colspan s narrow state =
       width = let w : max s.width (x + colspan) ≤ 6 = omega (arith, narrow, state.width) in w;
       height = let h : max s.height (s.row + 1) ≤ y + 1 = omega (arith, state.row, state.height) in h;
       low = subst (AllQuiet (y + 1)) (sym same)
-          (all_push (IsQuiet (y + 1)) s.cells (cell_with number x y colspan) state.low (one_row_quiet number x y colspan));
+          (AllByRecursion-append (IsQuiet (y + 1)) s.cells (cell_with number x y colspan ∷ []) state.low
+          (one_row_quiet number x y colspan, tt));
       one = subst HasNoOverlap (sym same) (pushed_one number y x colspan s.cells state.one state.free);
       free = λ x' from.
           ap (numbers_over x' y) same ∙ numbers-append x' y s.cells (cell_with number x y colspan ∷ [])
@@ -303,11 +301,7 @@ few_cells (cells ∷ rows) all =
 -- the spans are in their ranges
 row_spans : (cells : List DemoCell) → AllByRecursion IsDrawnCell cells → AllByRecursion IsSpan (map span_in cells)
 row_spans [] all = tt
-row_spans (c ∷ cells) all = ((some_columns c all.0, by_colspan (all.0).colspan, omega arith), row_spans cells all.1)
-  where
-    by_colspan : (c.colspan ≡ 1) ⊎ (c.colspan ≡ 2) → c.colspan ≤ MAX_COLSPAN
-    by_colspan (inl one) = omega (arith, one)
-    by_colspan (inr two) = omega (arith, two)
+row_spans (c ∷ cells) all = ((some_columns c all.0, few_columns c all.0, omega arith), row_spans cells all.1)
 
 all_spans : (rows : List (List DemoCell)) → AllByRecursion IsDrawnRow rows →
     AllByRecursion (AllByRecursion IsSpan) (map (map span_in) rows)

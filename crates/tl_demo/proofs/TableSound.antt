@@ -1,6 +1,6 @@
 -- The tree of a table is sound: one table, with words without control characters.
-use Rattle.std.proofs.Common.{◌≡◌, ◌∙◌, ℕ, zero, suc, ◌+◌, ◌*◌, ◌≤◌, ◌⊎◌, false, List, [], ◌∷◌, map, length, refl, sym, ap, subst}
-use Rattle.std.proofs.Common.{inl, inr, arith, sum_by}
+use Rattle.std.proofs.Common.{◌≡◌, ◌∙◌, ℕ, zero, suc, ◌+◌, ◌*◌, ◌≤◌, false, List, [], ◌∷◌, map, length, refl, sym, ap, subst}
+use Rattle.std.proofs.Common.{arith, sum_by}
 use Rattle.std.specs.List.{AllByRecursion, list_any}
 use Rattle.std.specs.Str.{IsAscii}
 use Rattle.std.proofs.lemmas.List.{length-map}
@@ -8,7 +8,7 @@ use Rattle.std.proofs.lemmas.List.Elements.{All-from_recursion}
 use Rattle.std.proofs.lemmas.List.Sums.{sum_by-cons}
 use Rattle.std.proofs.lemmas.Str.{chars-IsAscii, IsUtf8-from_ascii}
 use Rattle.std.proofs.lemmas.Str.Ascii.{IsAscii-from_all}
-use Rattle.tl_base.specs.declared.limits.TheConstants.{MAX_COLSPAN, MAX_ROWS}
+use Rattle.tl_base.specs.declared.limits.TheConstants.{MAX_ROWS}
 use Rattle.tl_base.specs.Text.{byte_count}
 use Rattle.tl_base.proofs.Texts.{byte_count-chars}
 use Rattle.tl_token.specs.Characters.{is_control}
@@ -23,7 +23,7 @@ use Rattle.tl_tree.specs.Sound.{entry_size}
 use Rattle.tl_tree.specs.Sound.{AreSound, IsSound}
 use Rattle.tl_tree.specs.declared.node.Part.TheVariants as parts
 use Rattle.tl_demo.specs.Demo.{DemoCell, word_text, words_text}
-use Rattle.tl_demo.proofs.DrawnRows.{IsWordLength, IsDrawnCell, IsDrawnRow, columns_of, some_columns}
+use Rattle.tl_demo.proofs.DrawnRows.{IsWordLength, IsDrawnCell, IsDrawnRow, columns_of, some_columns, few_columns}
 use Rattle.tl_demo.proofs.TableItems.{IsByte, letters_ascii, words_letters, words_length}
 use Rattle.tl_demo.proofs.TableTree.{paragraph_in, words_are, cells_listed, rows_listed, table_listed, table_node}
 
@@ -109,14 +109,10 @@ is_paragraph c is =
 cell_in_range : (c : DemoCell) → IsDrawnCell c → IsCellInRange c.colspan 1 0
 cell_in_range c is = record {
   some_column = omega (arith, some_columns c is);
-  few_columns = by_colspan is.colspan;
+  few_columns = few_columns c is;
   few_rows = omega arith;
   narrow = omega arith;
 }
-  where
-    by_colspan : (c.colspan ≡ 1) ⊎ (c.colspan ≡ 2) → c.colspan ≤ MAX_COLSPAN
-    by_colspan (inl one) = omega (arith, one)
-    by_colspan (inr two) = omega (arith, two)
 
 cells_in_range : (cells : List DemoCell) (later : Entries) → AllByRecursion IsDrawnCell cells →
     AllByRecursion IsEntryInRange later →

@@ -28,6 +28,7 @@ use Rattle.tl_tree.specs.declared.node.TableNode.{TableNode, roll-TableNode}
 use Rattle.tl_tree.proofs.Outlines.{paragraph_made, cell_made, group_made, table_made}
 use Rattle.tl_tree.proofs.Adds.{after-text}
 use Rattle.tl_tree.specs.Outline.{row_outline}
+use Rattle.tl_html.proofs.ReadsBack.{kinds_are as each_kind}
 use Rattle.tl_table.specs.Formed.{OpenNode, OpenGroup, OpenCellNode}
 use Rattle.tl_html.proofs.Items.{Item, item_kinds, text_kinds, kind_of}
 use Rattle.tl_html.proofs.PageTags.{numbers}
@@ -332,11 +333,7 @@ table_spelt tokens rows read some all = record {
 -- the tokens of items are what these are to the grammar
 pub kinds_are : (tokens : List Token) (items : List Item) → map kind_of tokens ≡ flat_map item_kinds items →
     kinds tokens ≡ grammar_kinds items
-kinds_are tokens items is = each tokens ∙ ap (map class_of) is
-  where
-    each : (ts : List Token) → kinds ts ≡ map class_of (map kind_of ts)
-    each [] = refl
-    each (t ∷ ts) = ap (λ (ks : Kinds). class_of t.kind ∷ ks) (each ts)
+kinds_are tokens items is = each_kind tokens ∙ ap (map class_of) is
 
 -- ---- what stands in the tree, one after the other
 

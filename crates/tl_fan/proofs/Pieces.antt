@@ -1,11 +1,12 @@
 -- Numbers in a row, and groups of pieces one after the other.
-use Rattle.std.proofs.Common.{◌≡◌, ◌∙◌, ℕ, ◌+◌, ◌-◌, ◌<◌, List, [], ◌∷◌, ◌++◌, length, get_or, map, take, drop}
+use Rattle.std.proofs.Common.{◌≡◌, ◌∙◌, ℕ, ◌+◌, ◌-◌, ◌<◌, List, [], ◌∷◌, ◌++◌, length, get_or, map, take, drop, refl}
 use Rattle.std.proofs.Common.{slice_range, sym, ap, subst, arith}
 use Rattle.std.specs.List.{AllZip, range_with_len}
 use Rattle.std.proofs.Math.Seq.{take-add}
-use Rattle.std.proofs.lemmas.List.{map-id, take_more}
+use Rattle.std.proofs.lemmas.List.{map-id}
 use Rattle.std.proofs.lemmas.List.FromFn.{map-range_with_len_more}
-use Rattle.tl_base.proofs.Zips.{AllZip-append, AllZip-push}
+use Rattle.tl_base.proofs.Zips.{AllZip-append}
+use Rattle.tl_base.proofs.Taken.{AllZip-taken}
 
 -- one more number
 pub range_more : (n : ℕ) → range_with_len 0 (n + 1) ≡ range_with_len 0 n ++ n ∷ []
@@ -18,8 +19,7 @@ pub piece_more : {X : Type 0} (R : ℕ → X → Type 0) (numbers : List ℕ) (a
     AllZip R (take (at + 1) numbers) more
 piece_more R numbers at found more one within old is new =
     subst (AllZip R (take (at + 1) numbers)) (sym is)
-    (subst (λ some. AllZip R some (found ++ one ∷ [])) (sym (take_more numbers at 0 within))
-    (AllZip-push R (take at numbers) found (get_or numbers at 0) one old new))
+    (AllZip-taken R numbers found at 0 (get_or numbers at 0) one within refl old new)
 
 -- one more group
 pub group_more : {X : Type 0} (R : ℕ → X → Type 0) (numbers : List ℕ) (from size : ℕ) (found more : List X) →

@@ -1,12 +1,13 @@
 -- The greatest and the least measure of the items that count, one item at a time.
 use Rattle.std.proofs.Common.{◌≡◌, ◌∙◌, ℕ, ◌+◌, ◌<◌, ◌≤◌, max, min, Option, None, Some, MatchOption, List, [], ◌∷◌, ◌++◌, ◌⊎◌}
 use Rattle.std.proofs.Common.{inl, inr, length}
-use Rattle.std.proofs.Common.{get_or, take, refl, sym, ap, subst, arith, length-append}
+use Rattle.std.proofs.Common.{get_or, take, refl, sym, subst, arith, length-append}
 use Rattle.std.specs.List.{All, Any}
 use Rattle.std.proofs.Math.Seq.{get_or-append_seam}
 use Rattle.std.proofs.lemmas.Bool.{cases_lt}
-use Rattle.std.proofs.lemmas.List.{get_or_append_left, take_more}
+use Rattle.std.proofs.lemmas.List.{get_or_append_left}
 use Rattle.std.proofs.lemmas.List.Elements.{All-push}
+use Rattle.tl_base.proofs.Taken.{taken_more}
 use Rattle.tl_form.specs.inner.Collecting.{IsMost, IsFewest, greater, lesser}
 
 module _ {X : Type 0} (Counts : X → Type 0) (measure : X → ℕ) where
@@ -87,10 +88,6 @@ module _ {X : Type 0} (Counts : X → Type 0) (measure : X → ℕ) where
         subst (λ n. Any (λ y. Counts y × (measure y ≡ n)) (xs ++ x ∷ [])) (sym same)
         (earlier (λ y. Counts y × (measure y ≡ fewest)) xs x is.attained)
 
-  -- the first items with one more
-  pub one_more : (xs : List X) (i : ℕ) (x : X) → i < length xs → x ≡ get_or xs i x → take (i + 1) xs ≡ take i xs ++ x ∷ []
-  one_more xs i x within is = take_more xs i x within ∙ ap (λ (y : X). take i xs ++ y ∷ []) (sym is)
-
   -- what is known of the items so far, with one more that counts, and with one that does not
   abbrev pub BestMost : List X → Option ℕ → Type 0
   BestMost xs known = MatchOption known (NoneCounts xs) (IsMost Counts measure xs)
@@ -102,7 +99,7 @@ module _ {X : Type 0} (Counts : X → Type 0) (measure : X → ℕ) where
       BestMost (take i xs) known → Counts x →
       BestMost (take (i + 1) xs) (Some (greater known (measure x)))
   most_counted xs i x known within is best counts =
-      subst (λ ys. IsMost Counts measure ys (greater known (measure x))) (sym (one_more xs i x within is)) (by_known known best)
+      subst (λ ys. IsMost Counts measure ys (greater known (measure x))) (sym (taken_more xs i x x within is)) (by_known known best)
     where
       by_known : (known : Option ℕ) → BestMost (take i xs) known →
           IsMost Counts measure (take i xs ++ x ∷ []) (greater known (measure x))
@@ -113,7 +110,7 @@ module _ {X : Type 0} (Counts : X → Type 0) (measure : X → ℕ) where
       BestMost (take i xs) known →
       (Counts x → ⊥) → BestMost (take (i + 1) xs) known
   most_skipped xs i x known within is best other =
-      subst (λ ys. BestMost ys known) (sym (one_more xs i x within is)) (by_known known best)
+      subst (λ ys. BestMost ys known) (sym (taken_more xs i x x within is)) (by_known known best)
     where
       by_known : (known : Option ℕ) → BestMost (take i xs) known → BestMost (take i xs ++ x ∷ []) known
       by_known None none = none_skips (take i xs) x none other
@@ -123,7 +120,7 @@ module _ {X : Type 0} (Counts : X → Type 0) (measure : X → ℕ) where
       BestFewest (take i xs) known → Counts x →
       BestFewest (take (i + 1) xs) (Some (lesser known (measure x)))
   fewest_counted xs i x known within is best counts =
-      subst (λ ys. IsFewest Counts measure ys (lesser known (measure x))) (sym (one_more xs i x within is)) (by_known known best)
+      subst (λ ys. IsFewest Counts measure ys (lesser known (measure x))) (sym (taken_more xs i x x within is)) (by_known known best)
     where
       by_known : (known : Option ℕ) → BestFewest (take i xs) known →
           IsFewest Counts measure (take i xs ++ x ∷ []) (lesser known (measure x))
@@ -134,7 +131,7 @@ module _ {X : Type 0} (Counts : X → Type 0) (measure : X → ℕ) where
       BestFewest (take i xs) known →
       (Counts x → ⊥) → BestFewest (take (i + 1) xs) known
   fewest_skipped xs i x known within is best other =
-      subst (λ ys. BestFewest ys known) (sym (one_more xs i x within is)) (by_known known best)
+      subst (λ ys. BestFewest ys known) (sym (taken_more xs i x x within is)) (by_known known best)
     where
       by_known : (known : Option ℕ) → BestFewest (take i xs) known → BestFewest (take i xs ++ x ∷ []) known
       by_known None none = none_skips (take i xs) x none other

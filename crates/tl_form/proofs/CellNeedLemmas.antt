@@ -6,12 +6,12 @@ use Rattle.std.specs.List.{All, AllZip, AllByRecursion}
 use Rattle.std.specs.Option.{IsSomeAnd}
 use Rattle.std.specs.declared.alloc.Global.{Global}
 use Rattle.std.specs.declared.boxed.Box.{Box}
-use Rattle.std.proofs.lemmas.List.{take_more}
 use Rattle.tl_base.specs.declared.limits.TheConstants.{MAX_HEIGHT}
 use Rattle.tl_base.specs.declared.steps.Config.{Config}
 use Rattle.tl_base.specs.Steps.{AreSteps, both_heights, first_height, first_width, height_at, stacked_height}
 use Rattle.tl_base.proofs.Sums.{sum-cons, sum-one}
 use Rattle.tl_base.proofs.Zips.{AllZip-push}
+use Rattle.tl_base.proofs.Taken.{taken_more}
 use Rattle.tl_problem.proofs.Heights.{height-from_first}
 use Rattle.tl_text.specs.declared.paragraph.Atom.{Atom}
 use Rattle.tl_text.specs.Cuttings.{HasCutting, LeastLines}
@@ -204,11 +204,6 @@ module _ (needs : Table → ℕ → ℕ → Type 0) where
       (λ w h within need. blocks-cell cell w h (let some = begins.has w need.0 in some.1.floor) need.1)
       (λ w h within need. (begins.from w h need, cell-blocks cell w h need)) of
 
--- the first blocks and one more
-pub taken : (blocks : List Content) (k : ℕ) (block : Content) → k < length blocks → block ≡ get_or blocks k block →
-    take (k + 1) blocks ≡ take k blocks ++ block ∷ []
-taken blocks k block inside is = take_more blocks k block inside ∙ ap (λ last. take k blocks ++ last ∷ []) (sym is)
-
 -- ---- where steps begin
 
 -- steps of what is needed from a width on begin there
@@ -236,7 +231,7 @@ low-together needs functional cell page start k block before here low begins ins
     let all = cell-blocks needs cell start whole.0 whole.1 in
     let first = first-blocks needs (k + 1) cell.blocks start whole.0 all in
     let less = one-less needs (take k cell.blocks) block start first.0
-    (subst (λ (blocks : List Content). BlocksNeed needs blocks start first.0) (taken cell.blocks k block inside is) first.1) in
+    (subst (λ (blocks : List Content). BlocksNeed needs blocks start first.0) (taken_more cell.blocks k block block inside is) first.1) in
     let one = from-first (BlocksNeed needs (take k cell.blocks)) start page less.0 before within of_before less.2 in
     let other = from-first (BlockNeeds needs (out-Content block)) start page less.1 here within of_here less.3 in
     let same_one = blocks-functional needs functional (take k cell.blocks) start (first_height before) less.0 one.1 less.2 in

@@ -169,7 +169,7 @@ module _ (document : Document) (on : IsOnPage document) (before : List Section) 
       (inner_tables (out-Table one)) nested_meets)
 
 -- in a true problem each cell needs the same by both bounds
-low_is_high : (table : Table) (style : Style) (page : ℕ) (problem : ProblemModel) → IsTrueProblem table style page problem →
+pub low_is_high : (table : Table) (style : Style) (page : ℕ) (problem : ProblemModel) → IsTrueProblem table style page problem →
     LowIsHigh problem
 low_is_high table style page problem is cell has w within =
     ap (λ steps. height_at steps w) (All-contains (λ each. each.low ≡ each.high) problem.cells cell

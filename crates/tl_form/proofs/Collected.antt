@@ -3,13 +3,12 @@ use Rattle.std.proofs.Common.{◌≡◌, ◌∙◌, ℕ, ◌+◌, ◌<◌, List,
 use Rattle.std.proofs.Common.{subst, append_assoc}
 use Rattle.std.proofs.Common.{append-nil, arith, IsSome}
 use Rattle.std.specs.List.{AllZip, Contains, flat_map}
-use Rattle.std.proofs.lemmas.Grind.{flat_map-append}
-use Rattle.std.proofs.lemmas.List.{take_more}
 use Rattle.std.proofs.lemmas.List.Concat.{flat_map-cons}
 use Rattle.tl_base.specs.declared.style.Style.{Style}
 use Rattle.std.proofs.lemmas.List.Elements.{recursion_from_All}
 use Rattle.tl_base.proofs.Members.{All-from_Contains, Contains-cases, Contains-none, Contains-flat_map}
 use Rattle.tl_base.proofs.Zips.{AllZip-append, AllZip-Contains}
+use Rattle.tl_base.proofs.Taken.{joined_more}
 use Rattle.tl_cert.specs.declared.section.Section.{Section}
 use Rattle.tl_table.specs.declared.cell.Content.{Content, out-Content}
 use Rattle.tl_table.specs.declared.cell.Table.{Table, out-Table}
@@ -54,13 +53,9 @@ module _ (style : Style) (page : ℕ) (sections : List Section) where
   collects_more {X = X} f xs i x before mid after more within is so_far each joined = record {
     more = so_far.more ++ more;
     joined = joined ∙ ap (λ (all : List InnerSteps). all ++ more) so_far.joined ∙ append_assoc before so_far.more more;
-    each = subst (λ tables. AllZip (AreStepsBy style page sections) tables (so_far.more ++ more)) (sym next)
+    each = subst (λ tables. AllZip (AreStepsBy style page sections) tables (so_far.more ++ more)) (sym (joined_more f xs i x x within is))
         (AllZip-append (AreStepsBy style page sections) (flat_map f (take i xs)) (f x) so_far.more more so_far.each each);
-  } where
-    next : flat_map f (take (i + 1) xs) ≡ flat_map f (take i xs) ++ f x
-    next = ap (flat_map f) (take_more xs i x within ∙ ap (λ (y : X). take i xs ++ y ∷ []) (sym is))
-        ∙ flat_map-append f (take i xs) (x ∷ [])
-        ∙ ap (λ (tables : List Table). flat_map f (take i xs) ++ tables) (flat_map-cons f x [] ∙ append-nil (f x))
+  }
 
   -- a paragraph has no table
   pub collects_none : (xs : List Content) (i : ℕ) (x : Content) (before mid after : List InnerSteps) → i < length xs →

@@ -27,6 +27,7 @@ use Rattle.tl_form.proofs.ProblemLayouts.{IsBelowAt, cell-below}
 use Rattle.tl_form.proofs.ProblemTruth.{cell-inside}
 use Rattle.tl_form.proofs.Searches.{Decides, first-of}
 use Rattle.tl_table.proofs.SoundParts.{both_each, each_joined, joined-each}
+use Rattle.tl_table.proofs.FewCells.{among-from, among-to}
 use Rattle.tl_form.proofs.StepsExist.{HasStart, cell-begins, cell-steps}
 use Rattle.tl_form.proofs.Truth.{Fits-wider}
 
@@ -274,19 +275,6 @@ module _ (style : Style) where
               ]) all.1,
         )
 
-    -- a table's own and those of the tables nested in it
-    among-to : (table inside : Table) → IsAmong table inside → (table ≡ inside) ⊎ AmongOf (inner_tables (out-Table table)) inside
-    among-to table inside (inl same) = inl same
-    among-to table inside (inr (zero, none)) = absurd none
-    among-to table inside (inr (suc depth, (nested, has, inl same))) = inr (nested, has, inl same)
-    among-to table inside (inr (suc depth, (nested, has, inr deeper))) = inr (nested, has, inr (depth, deeper))
-
-    among-from : (table inside : Table) → (table ≡ inside) ⊎ AmongOf (inner_tables (out-Table table)) inside →
-        IsAmong table inside
-    among-from table inside (inl same) = inl same
-    among-from table inside (inr (nested, has, inl same)) = inr (1, (nested, has, inl same))
-    among-from table inside (inr (nested, has, inr (depth, deeper))) = inr (suc depth, (nested, has, inr deeper))
-
     count-all : (table : Table) (count : ℕ) → IsCount table style page count →
         AllByRecursion (λ nested. (m : ℕ) × IsCountAll nested style page m) (inner_tables (out-Table table)) →
         (most : ℕ) × IsCountAll table style page most
@@ -297,7 +285,10 @@ module _ (style : Style) where
         } in
         let all = most-all (λ inside. table ≡ inside) count (inner_tables (out-Table table)) each own in
         let whole = most-same (λ inside. (table ≡ inside) ⊎ AmongOf (inner_tables (out-Table table)) inside) (IsAmong table)
-        all.0 (among-from table)
+        all.0 (λ inside one. elim one [
+          | inl same ↦ inl same
+          | inr deeper ↦ among-from table deeper.0 inside deeper.1 deeper.2
+        ])
         (among-to table) all.1 in
         (all.0, record { attained = whole.attained; never_more = whole.never_more })
 

@@ -5,6 +5,7 @@ use Rattle.std.proofs.Common.{◌++◌, ◌⊎◌, inl, inr}
 use Rattle.std.proofs.Common.{length, get_or, take, Option, None, Some, refl, sym, ap, subst, arith}
 use Rattle.std.proofs.lemmas.Bool.{cases_eq, eq-eqb, ne_eqb}
 use Rattle.std.proofs.lemmas.List.{take_more}
+use Rattle.tl_base.proofs.Options.{Some-same}
 use Rattle.tl_cert.specs.declared.section.Section.{Section}
 use Rattle.tl_form.specs.Expected.{Document, Due, own_number, least_of, first_due, next_width, due_in, next_due, placed_width}
 use Rattle.tl_form.specs.Expected.{due_from, due_after}
@@ -70,13 +71,10 @@ next_may document number placed next_one from upto is = by_test (number == own_n
         none_is : {X : Type 0} {x : X} → None ≡ Some x → ⊥
         none_is equal = cc
     by_test false same found =
-        subst (MayBeDue document) (some_is (subst (λ (b : Bool). (if b then None else Some
+        subst (MayBeDue document) (Some-same (subst (λ (b : Bool). (if b then None else Some
         (due_in document number (next_width (least_of document number) placed))) ≡ Some next_one) same found))
         (after (next_width (least_of document number) placed) (λ equal. apart equal same))
       where
-        some_is : {X : Type 0} {x y : X} → Some x ≡ Some y → x ≡ y
-        some_is equal = cc
-
         apart : number ≡ own_number document → (number == own_number document) ≡ false → ⊥
         apart equal fails = elim (cases_eq number (own_number document)) [
           | inl both ↦ true_false (sym (eq-eqb number (own_number document) both) ∙ fails)
@@ -85,9 +83,6 @@ next_may document number placed next_one from upto is = by_test (number == own_n
           where
             true_false : true ≡ false → ⊥
             true_false equal = cc
-
-some_is : {X : Type 0} {x y : X} → Some x ≡ Some y → x ≡ y
-some_is equal = cc
 
 nothing_due : (document : Document) (sections : List Section) (next_one : Due) →
     due_from document None sections ≡ Some next_one → ⊥
@@ -108,7 +103,7 @@ pub may_be_due : (document : Document) (sections : List Section) (next_one : Due
     due_after document sections ≡ Some next_one → MayBeDue document next_one
 may_be_due document sections next_one some is =
     due_may document (Some (first_due document document.last)) next_one sections
-    (λ now same. subst (MayBeDue document) (some_is same) (first_may document some)) is
+    (λ now same. subst (MayBeDue document) (Some-same same) (first_may document some)) is
 
 -- nothing is due after a section of the document's own table alone
 pub last_is_own : (document : Document) (number placed : ℕ) → next_due document number placed ≡ None →

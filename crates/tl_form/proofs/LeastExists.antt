@@ -10,6 +10,7 @@ use Rattle.tl_base.specs.Style.{gap_of, row_gap_of, edge_of}
 use Rattle.tl_base.proofs.Members.{AllByRecursion-weaker}
 use Rattle.tl_grid.specs.Dropping.{IsPlaced}
 use Rattle.tl_base.specs.Sizes.{room, total}
+use Rattle.tl_base.proofs.SizeLaws.{total-within}
 use Rattle.tl_table.specs.declared.cell.Content.{Content, out-Content}
 use Rattle.tl_table.specs.declared.cell.Content.TheOpen as open_content
 use Rattle.tl_table.specs.declared.cell.Table.{Table, out-Table}
@@ -28,7 +29,7 @@ use Rattle.tl_form.proofs.ParagraphSteps.{fits-or-not, lines-from_fit}
 use Rattle.tl_form.proofs.ProblemLayouts.{IsAboveAt, IsBelowAt, cell-above, cell-below}
 use Rattle.tl_form.proofs.ProblemTruth.{cell-inside, least-functional}
 use Rattle.tl_table.proofs.AnyDepth.{fits-rolled}
-use Rattle.tl_form.proofs.Searches.{Decides, Found, decide-some, total-small}
+use Rattle.tl_form.proofs.Searches.{Decides, Found, decide-some}
 use Rattle.tl_table.proofs.SoundParts.{each_joined}
 
 module _ (style : Style) where
@@ -274,8 +275,8 @@ module _ (style : Style) where
         decide-some table.cols page (λ widths. Found table.rows (λ heights. IsLower page height widths heights))
         (λ widths. decide-some table.rows height (λ heights. IsLower page height widths heights)
         (λ heights. decide-lower page height widths heights)
-        (λ heights is. total-small (row_gap_of style) (edge_of style) height heights (omega (arith, is.1))))
-        (λ widths found. total-small (gap_of style) (edge_of style) page widths found.2.0.narrow)
+        (λ heights is. total-within (row_gap_of style) (edge_of style) height heights (omega (arith, is.1))))
+        (λ widths found. total-within (gap_of style) (edge_of style) page widths found.2.0.narrow)
 
     -- the least total height of good sizes
     pub record IsLeastGood (page : ℕ) : Type 0 where
@@ -338,7 +339,7 @@ module _ (style : Style) where
           | inr narrow ↦ elim (decide-need widths table.cells settle)
               [ inl need ↦ inl (narrow, need) | inr not ↦ inr (λ is. not is.1) ]
         ])
-        (λ widths is. total-small (gap_of style) (edge_of style) page widths is.0)
+        (λ widths is. total-within (gap_of style) (edge_of style) page widths is.0)
 
     need-held : (widths heights : List ℕ) (cells : List TableCell) → AllHeld widths heights cells → AllNeed widths cells
     need-held widths heights [] held = tt

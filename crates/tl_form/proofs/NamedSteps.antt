@@ -6,7 +6,7 @@ use Rattle.std.proofs.lemmas.Grind.{flat_map-append}
 use Rattle.std.proofs.lemmas.List.Concat.{flat_map-cons}
 use Rattle.std.specs.List.{AllZip, AllByRecursion, flat_map}
 use Rattle.std.specs.Option.{IsSomeAnd}
-use Rattle.std.proofs.lemmas.List.{get_or_default, get_or-take, length-take, take_all, take_more}
+use Rattle.std.proofs.lemmas.List.{get_or_default, get_or-take, length-take, take_all}
 use Rattle.std.proofs.lemmas.List.Elements.{All-contains, All-from_recursion, All-get_or, recursion_from_All}
 use Rattle.tl_base.specs.declared.limits.TheConstants.{MAX_PAGE_WIDTH}
 use Rattle.tl_base.specs.declared.style.Style.{Style}
@@ -23,6 +23,7 @@ use Rattle.tl_problem.specs.Sound.{IsSoundCell}
 use Rattle.std.specs.declared.alloc.Global.{Global}
 use Rattle.std.specs.declared.boxed.Box.{Box}
 use Rattle.tl_base.proofs.SizeLaws.{room-total, sum-total}
+use Rattle.tl_base.proofs.Taken.{joined_more, taken_more}
 use Rattle.tl_cert.specs.declared.certificate.Certificate.{Certificate}
 use Rattle.tl_cert.specs.declared.certificate.Claim.{Claim}
 use Rattle.tl_cert.specs.declared.certificate.Claim.TheVariants.{Lowest, Bounded, Narrow}
@@ -270,12 +271,7 @@ tables_past blocks i = flat_map (λ block. tables_of (out-Content block)) (take 
 
 pub past_more : (blocks : List Content) (i : ℕ) (block : Content) → i < length blocks → block ≡ get_or blocks i block →
     tables_past blocks (i + 1) ≡ tables_past blocks i ++ tables_of (out-Content block)
-past_more blocks i block within is =
-    ap (flat_map (λ one. tables_of (out-Content one))) (take_more blocks i block within ∙ ap (λ one. take i blocks ++ one ∷ [])
-    (sym is))
-    ∙ flat_map-append (λ one. tables_of (out-Content one)) (take i blocks) (block ∷ [])
-    ∙ ap (λ xs. tables_past blocks i ++ xs) (flat_map-cons (λ one. tables_of (out-Content one)) block [] ∙ append-nil
-    (tables_of (out-Content block)))
+past_more blocks i block within is = joined_more (λ one. tables_of (out-Content one)) blocks i block block within is
 
 pub blocks_laid : (style : Style) (sections : List Section) (w : ℕ) (blocks : List Content) (i : ℕ) (block : Content)
     (before inner after : List Layout) →
@@ -294,7 +290,7 @@ pub cells_laid : (style : Style) (sections : List Section) (widths : List ℕ) (
     CellsLaid style sections widths (take (i + 1) cells) after
 cells_laid style sections widths cells i cell inner after within is far next =
     subst (λ some. CellsLaid style sections widths some after)
-    (sym (take_more cells i cell within ∙ ap (λ one. take i cells ++ one ∷ []) (sym is)))
+    (sym (taken_more cells i cell cell within is))
     (record {
       parts = far.parts ++ next.part ∷ [];
       each = AllZip-push (λ one part. AllZip (IsLaidIn style sections (room_for style widths one))

@@ -9,9 +9,8 @@ use Rattle.tl_base.specs.declared.limits.TheConstants.{MAX_HEIGHT}
 use Rattle.tl_base.specs.declared.steps.Config.{Config}
 use Rattle.tl_base.specs.declared.style.Style.{Style}
 use Rattle.tl_base.specs.Steps.{first_height, first_width, height_at}
-use Rattle.tl_base.proofs.Members.{AllByRecursion-append}
 use Rattle.tl_base.proofs.Stacking.{first_width-within}
-use Rattle.tl_base.proofs.Zips.{AllZip-push}
+use Rattle.tl_base.proofs.Taken.{AllZip-taken}
 use Rattle.tl_problem.specs.declared.cell.Cell.{Cell}
 use Rattle.tl_problem.specs.Problem.{ProblemModel}
 use Rattle.tl_problem.specs.Sound.{IsSound, IsSoundCell}
@@ -28,7 +27,6 @@ use Rattle.tl_form.proofs.CellNeedLemmas.{IsFunctional, cell-functional, inner-f
 use Rattle.tl_form.proofs.NeedSteps.{first-least, height-first}
 use Rattle.tl_form.proofs.ProblemTruth.{cell-inside, same-problem}
 use Rattle.tl_table.proofs.SoundParts.{each_joined, joined-each}
-use Rattle.std.proofs.lemmas.List.{take_more}
 
 -- ---- the steps of a cell
 
@@ -168,11 +166,8 @@ pub cells-more : (inner : List InnerSteps) (page : ℕ) (cells : List TableCell)
     AllZip (λ any other. IsCellBy (NeedsBy Low inner) (NeedsBy High inner) page (out-TableCell any) other) (take (k + 1) cells)
     (made ++ one ∷ [])
 cells-more inner page cells k cell made one inside is before here =
-    subst (λ (some : List TableCell). AllZip (λ any other. IsCellBy (NeedsBy Low inner) (NeedsBy High inner) page
-    (out-TableCell any) other) some
-    (made ++ one ∷ [])) (sym (take_more cells k cell inside ∙ ap (λ last. take k cells ++ last ∷ []) (sym is)))
-    (AllZip-push (λ any other. IsCellBy (NeedsBy Low inner) (NeedsBy High inner) page (out-TableCell any) other) (take k cells)
-    made cell one before here)
+    AllZip-taken (λ any other. IsCellBy (NeedsBy Low inner) (NeedsBy High inner) page (out-TableCell any) other) cells made k
+    cell cell one inside is before here
 
 -- the same from each block, from each cell, and one more of them
 pub blocks-have : (inner : List InnerSteps) (cell : OpenCell) →
@@ -188,10 +183,3 @@ pub each-have : (inner : List InnerSteps) (table : Table) → AllByRecursion
 each-have inner table have =
     joined-each (λ nested. IsSome (steps_for inner (out-Table nested).number)) (λ cell. tables_in (out-TableCell cell))
     (out-Table table).cells have
-
-pub have-more : {X : Type 0} (P : X → Type 0) (xs : List X) (k : ℕ) (x : X) → k < length xs → x ≡ get_or xs k x →
-    AllByRecursion P (take k xs) → P x →
-    AllByRecursion P (take (k + 1) xs)
-have-more P xs k x inside is before here =
-    subst (AllByRecursion P) (sym (take_more xs k x inside ∙ ap (λ last. take k xs ++ last ∷ []) (sym is)))
-    (AllByRecursion-append P (take k xs) (x ∷ []) before (here, tt))

@@ -1,10 +1,7 @@
 -- Finite searches: whether some list of so many small numbers is of a kind, where each list is or is not.
-use Rattle.std.proofs.Common.{◌≡◌, ℕ, zero, suc, ◌+◌, ◌<◌, ◌≤◌, ◌⊎◌, inl, inr, List, [], ◌∷◌, length, sum, refl, subst, arith}
+use Rattle.std.proofs.Common.{◌≡◌, ℕ, zero, suc, ◌+◌, ◌<◌, ◌≤◌, ◌⊎◌, inl, inr, List, [], ◌∷◌, length, refl, subst, arith}
 use Rattle.std.specs.List.{AllByRecursion}
 use Rattle.std.proofs.lemmas.Bool.{cases_lt}
-use Rattle.tl_base.proofs.Sums.{sum-cons}
-use Rattle.tl_base.specs.Sizes.{total}
-use Rattle.tl_base.proofs.SizeLaws.{sum-total}
 
 -- it is so, or it is not
 abbrev pub Decides : Type 0 → Type 0
@@ -75,16 +72,6 @@ decide-some n most Kind decide small =
       | inl found ↦ inl found
       | inr none ↦ inr (λ found. none found.0 found.1 (small found.0 found.2) found.2)
     ]
-
--- ---- sizes are no greater than their total
-
-sizes-small : (most : ℕ) (sizes : List ℕ) → sum sizes ≤ most → AllByRecursion (λ size. size ≤ most) sizes
-sizes-small most [] small = tt
-sizes-small most (size ∷ sizes) small =
-    (omega (arith, sum-cons size sizes, small), sizes-small most sizes (omega (arith, sum-cons size sizes, small)))
-
-pub total-small : (gap edge most : ℕ) (sizes : List ℕ) → total gap edge sizes ≤ most → AllByRecursion (λ size. size ≤ most) sizes
-total-small gap edge most sizes small = sizes-small most sizes (omega (arith, sum-total gap edge sizes, small))
 
 -- ---- the first number of a kind
 

@@ -1,15 +1,15 @@
 -- Steps that are found width by width: at each width one more, where the height is lower.
-use Rattle.std.proofs.Common.{◌≡◌, ◌∙◌, ℕ, zero, suc, ◌+◌, ◌-◌, ◌<◌, ◌≤◌, nat_le, nat_lt, Bool, false, cond, if◌then◌else◌, List}
+use Rattle.std.proofs.Common.{◌≡◌, ◌∙◌, ℕ, zero, suc, ◌+◌, ◌-◌, ◌<◌, ◌≤◌, nat_le, Bool, cond, if◌then◌else◌, List}
 use Rattle.std.proofs.Common.{[], ◌∷◌}
 use Rattle.std.proofs.Common.{◌++◌, ◌⊎◌, inl, inr, length, get_or, filter, slice_get, option_map, Option, None, Some, refl, sym}
 use Rattle.std.proofs.Common.{ap, subst, arith}
 use Rattle.std.proofs.Common.{length-append}
 use Rattle.std.specs.List.{All, last_or}
 use Rattle.std.proofs.lemmas.Bool.{cases_lt}
-use Rattle.std.proofs.lemmas.Bool.Decides.{nat_tests}
 use Rattle.std.proofs.lemmas.Option.{slice_get-get_or, same_Some}
 use Rattle.std.proofs.lemmas.List.Elements.{All-nil, All-push}
 use Rattle.std.proofs.lemmas.List.Quantifiers.{all_pairs_push}
+use Rattle.tl_cert.proofs.ZoneBounds.{not_lt_test}
 use Rattle.tl_base.specs.declared.steps.Config.{Config}
 use Rattle.tl_base.specs.Steps.{AreSteps, first_width, height_at}
 use Rattle.tl_base.proofs.Decreasing.{no_step, test_le, test_le_false, test_lt}
@@ -17,9 +17,6 @@ use Rattle.tl_base.proofs.Stacking.{height_at-push}
 use Rattle.tl_form.specs.Problems.{AreStepsOf}
 use Rattle.tl_form.specs.inner.Collecting.{is_below, with_step, AreStepsBelow}
 use Rattle.tl_form.proofs.NeedSteps.{first-least}
-
-test_lt_false : {a b : ℕ} → b ≤ a → nat_lt a b ≡ false
-test_lt_false more = grind (arith, nat_tests)
 
 -- ---- heights with one step more
 
@@ -185,7 +182,7 @@ module _ (needs : ℕ → ℕ → Type 0) (functional : (w a b : ℕ) → needs 
               | inl lower ↦ subst (λ (b : Bool). AreStepsBelow needs least (w + 1) (if b then steps ++ step ∷ [] else steps))
                   (sym (test_lt lower)) (pushed (omega (arith, many)) lower)
               | inr higher ↦ subst (λ (b : Bool). AreStepsBelow needs least (w + 1) (if b then steps ++ step ∷ [] else steps))
-                  (sym (test_lt_false higher)) (kept (omega (arith, many)) higher)
+                  (sym (not_lt_test _ _ higher)) (kept (omega (arith, many)) higher)
             ])
 
   -- up to a page they are the steps

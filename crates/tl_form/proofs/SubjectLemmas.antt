@@ -1,10 +1,10 @@
 -- The document that a subject is: each number has its table, and its least width.
 use Rattle.std.proofs.Common.{◌≡◌, ◌∙◌, ℕ, ◌+◌, ◌-◌, ◌<◌, List, ◌∷◌, [], ◌++◌, length, take, get_or}
-use Rattle.std.proofs.Common.{Option, Some, MatchOption, Result, Ok, Err, IfOk, refl, sym, subst, arith}
+use Rattle.std.proofs.Common.{Option, Some, MatchOption, refl, sym, subst, arith}
 use Rattle.std.specs.List.{All, AllZip}
-use Rattle.std.proofs.lemmas.List.{take_more}
-use Rattle.tl_base.proofs.Zips.{AllZip-get_or, AllZip-length, AllZip-push}
+use Rattle.tl_base.proofs.Zips.{AllZip-get_or, AllZip-length}
 use Rattle.tl_base.specs.declared.style.Style.{Style}
+use Rattle.tl_base.proofs.Taken.{AllZip-taken}
 use denote.Ref.{Bor}
 use Rattle.tl_form.specs.Expected.{IsDocumentOf}
 use Rattle.tl_table.specs.declared.cell.Table.{Table, out-Table}
@@ -16,10 +16,6 @@ use Rattle.tl_table.proofs.TableNumbers.{number_within, one_of_number, sound_amo
 
 pub it_is : {X : Type 0} (L : Type 0) (o : Option X) (x : X) (P : X → Type 0) → o ≡ Some x → MatchOption o L P → P x
 it_is {X = X} L o x P is has = subst (λ (one : Option X). MatchOption one L P) is has
-
-pub ok_weaker : {X E : Type 0} (result : Result X E) (P Q : X → Type 0) → ((x : X) → P x → Q x) → IfOk result P → IfOk result Q
-ok_weaker (Ok x) P Q weaker is = weaker x is
-ok_weaker (Err e) P Q weaker is = tt
 
 -- ---- the tables by number
 
@@ -37,9 +33,7 @@ pub widths_more : (style : Style) (tables : List (Bor Table)) (k n : ℕ) (one :
     AllZip (λ t width. IsLeastWidth t.now style width) (take (k + 1) tables) more
 widths_more style tables k n one least more within is old push next =
     let Is : Bor Table → ℕ → Type 0 = λ t width. IsLeastWidth t.now style width in
-    subst (AllZip Is (take (k + 1) tables)) (sym push)
-    (subst (λ some. AllZip Is some (least ++ n ∷ [])) (sym (take_more tables k one within))
-    (AllZip-push Is (take k tables) least (get_or tables k one) n old (subst (λ t. Is t n) is next)))
+    subst (AllZip Is (take (k + 1) tables)) (sym push) (AllZip-taken Is tables least k one one n within is old next)
 
 -- ---- the document
 

@@ -234,7 +234,7 @@ one_overlap cells a b x y a' b' x' y' is is' =
     ]
 
 -- a table with a grid has no cause
-no_cause : (shape : Shape) (grid : Grid) (error : GridError) → HasGrid shape grid → LacksGrid shape error → ⊥
+pub no_cause : (shape : Shape) (grid : Grid) (error : GridError) → HasGrid shape grid → LacksGrid shape error → ⊥
 no_cause shape grid (Memory e) has is = is
 no_cause shape grid (TooManyCells count) has is = omega (arith, has.few_cells, is.counted, is.many)
 no_cause shape grid (Overlap a b x y) has is = many_over (formed shape).cells a b x y is.overlap (has.no_overlap x y)
@@ -242,7 +242,7 @@ no_cause shape grid (TooManyColumns count) has is = omega (arith, has.few_column
 no_cause shape grid (TooManyRows count) has is = omega (arith, has.few_rows, is.counted, is.many)
 
 -- a table has one cause
-one_cause : (shape : Shape) (first second : GridError) → LacksGrid shape first → LacksGrid shape second → first ≡ second
+pub one_cause : (shape : Shape) (first second : GridError) → LacksGrid shape first → LacksGrid shape second → first ≡ second
 one_cause shape (Memory e) second is is' = absurd is
 one_cause shape (TooManyCells n) (Memory e) is is' = absurd is'
 one_cause shape (TooManyCells n) (TooManyCells m) is is' = ap TooManyCells (is.counted ∙ sym is'.counted)

@@ -1,9 +1,8 @@
 -- A text that grows by what each item of a list stands for.
-use Rattle.std.proofs.Common.{◌≡◌, ℕ, ◌+◌, ◌-◌, ◌<◌, suc, List, [], ◌∷◌, ◌++◌, length, take, get_or, sym, ap, ◌∙◌, arith}
-use Rattle.std.proofs.Common.{append_assoc, append-nil}
+use Rattle.std.proofs.Common.{◌≡◌, ℕ, ◌+◌, ◌-◌, ◌<◌, suc, List, ◌++◌, length, take, get_or, sym, ap, ◌∙◌, arith, refl}
+use Rattle.std.proofs.Common.{append_assoc}
 use Rattle.std.specs.List.{flat_map, range_with_len}
-use Rattle.std.proofs.lemmas.List.{take_more}
-use Rattle.std.proofs.lemmas.List.Concat.{flat_map-append}
+use Rattle.tl_base.proofs.Taken.{joined_more}
 
 -- one more item
 pub grown_at : {X : Type 0} (f : X → List ℕ) (xs : List X) (i : ℕ) (d : X) (start old new : List ℕ) → i < length xs →
@@ -11,9 +10,7 @@ pub grown_at : {X : Type 0} (f : X → List ℕ) (xs : List X) (i : ℕ) (d : X)
 grown_at f xs i d start old new within before after =
     let item = get_or xs i d in
     after ∙ ap (λ text. text ++ f item) before ∙ append_assoc start (flat_map f (take i xs)) (f item)
-    ∙ ap (λ text. start ++ text)
-    (ap (λ text. flat_map f (take i xs) ++ text) (sym (append-nil (f item))) ∙ sym (flat_map-append f (take i xs) (item ∷ []))
-    ∙ ap (flat_map f) (sym (take_more xs i d within)))
+    ∙ ap (λ text. start ++ text) (sym (joined_more f xs i d item within refl))
 
 -- one more item, which was looked up
 pub grown : {X : Type 0} (f : X → List ℕ) (xs : List X) (i : ℕ) (x : X) (start old new : List ℕ) → i < length xs →

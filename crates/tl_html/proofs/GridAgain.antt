@@ -8,7 +8,8 @@ use Rattle.std.specs.List.{AllByRecursion, AllPairs, flat_map}
 use Rattle.std.proofs.lemmas.Bool.{lt-ltb, le-leb, eqb-true, ltb-true, leb-true, and_parts, and_from, or_left, or_right, cases_lt}
 use Rattle.std.proofs.lemmas.Bool.{cond-false}
 use Rattle.std.proofs.lemmas.Bool.{false_from_ne_true}
-use Rattle.std.proofs.lemmas.List.{length-append}
+use Rattle.std.proofs.lemmas.List.{length-append, get_or_append_left}
+use Rattle.std.proofs.Math.Bool.{or-false}
 use Rattle.tl_grid.specs.declared.shape.SpanOf.{SpanOf}
 use Rattle.tl_grid.specs.declared.shape.Shape.{Shape}
 use Rattle.tl_grid.specs.declared.shape.Place.{Place}
@@ -51,14 +52,9 @@ cells_on-append number (x ∷ xs) ys =
 
 -- ---- what is known of a list at one of its places
 
-middle : {X : Type 0} (xs : List X) (x : X) (ys : List X) (d : X) → get_or (xs ++ x ∷ ys) (length xs) d ≡ x
+pub middle : {X : Type 0} (xs : List X) (x : X) (ys : List X) (d : X) → get_or (xs ++ x ∷ ys) (length xs) d ≡ x
 middle [] x ys d = refl
 middle (y ∷ xs) x ys d = middle xs x ys d
-
-early : {X : Type 0} (xs ys : List X) (i : ℕ) (d : X) → i < length xs → get_or (xs ++ ys) i d ≡ get_or xs i d
-early [] ys i d within = absurd (omega arith)
-early (x ∷ xs) ys zero d within = refl
-early (x ∷ xs) ys (suc i) d within = early xs ys i d (omega arith)
 
 -- some place of the list covers the slot
 covered_at : (x y number i : ℕ) (d : Place) (places : List Place) → i < length places → HasSlot x y (get_or places i d) →
@@ -111,7 +107,7 @@ module _ (W H : ℕ) (places : List Place) (grid : IsGrid W H places) where
         omega arith
 
     before : (i : ℕ) → i < length done → get_or places i p ≡ get_or done i p
-    before i lt = ap (λ (l : List Place). get_or l i p) (sym split) ∙ early done (p ∷ later) i p lt
+    before i lt = ap (λ (l : List Place). get_or l i p) (sym split) ∙ get_or_append_left done (p ∷ later) p i lt
 
     lies : IsPlaced W H p
     lies = subst (IsPlaced W H) here (grid.placed (length done) p within)
@@ -124,7 +120,7 @@ module _ (W H : ℕ) (places : List Place) (grid : IsGrid W H places) where
         elim (cases_lt k (length done)) [
           | inl earlier ↦ covered_at x p.top 0 k q done earlier (
               let same : get_or done k q ≡ q =
-              sym (early done (p ∷ later) k q earlier) ∙ ap (λ (l : List Place). get_or l k q) split ∙ is in
+              sym (get_or_append_left done (p ∷ later) q k earlier) ∙ ap (λ (l : List Place). get_or l k q) split ∙ is in
               subst (λ (r : Place). HasSlot x p.top r) (sym same) has)
           | inr from ↦
               absurd (elim (cases_lt (length done) k) [
@@ -282,15 +278,11 @@ module _ (W H : ℕ) (places : List Place) (grid : IsGrid W H places) where
         left = p.left;
         right = p.right;
         top = p.top;
-        rows = λ row. or_none (leb p.top row && ltb row p.bottom) i;
+        rows = λ row. or-false (leb p.top row && ltb row p.bottom) i;
         grows = false;
       } in
       ap (λ (cell : FormedCell). cell ∷ map (grown_into y) (cells_on (number + 1) ps)) same
       ∙ ap (λ (cells : List FormedCell). cell_on number p ∷ cells) (none_grows y (number + 1) ps)
-    where
-      or_none : (b : Bool) → (b || false) ≡ b
-      or_none true = refl
-      or_none false = refl
 
   none_ends : (y h : ℕ) (number : ℕ) (ps : List Place) → map (at_group_end y h) (cells_on number ps) ≡ cells_on number ps
   none_ends y h number [] = refl
@@ -300,15 +292,11 @@ module _ (W H : ℕ) (places : List Place) (grid : IsGrid W H places) where
         left = p.left;
         right = p.right;
         top = p.top;
-        rows = λ row. or_none (leb p.top row && ltb row p.bottom) i;
+        rows = λ row. or-false (leb p.top row && ltb row p.bottom) i;
         grows = false;
       } in
       ap (λ (cell : FormedCell). cell ∷ map (at_group_end y h) (cells_on (number + 1) ps)) same
       ∙ ap (λ (cells : List FormedCell). cell_on number p ∷ cells) (none_ends y h (number + 1) ps)
-    where
-      or_none : (b : Bool) → (b || false) ≡ b
-      or_none true = refl
-      or_none false = refl
 
   -- the places of each row, from row y on
   abbrev pub AreRows : ℕ → List (List Place) → Type 0

@@ -17,7 +17,7 @@ use Rattle.tl_grid.specs.Dropping.{StandsAtNumber}
 use Rattle.tl_grid.specs.Overlap.{numbers_over}
 use Rattle.tl_grid.specs.Form.{HasGrid}
 use Rattle.tl_grid.specs.Slots.{HasSlot, AreApart, HasAnchorInColumn, HasAnchorInRow}
-use Rattle.tl_html.proofs.GridAgain.{span_at, cell_on, cells_on, IsGrid, formed_again, shape_on, AreRows, slot_of}
+use Rattle.tl_html.proofs.GridAgain.{span_at, cell_on, cells_on, IsGrid, formed_again, shape_on, AreRows, slot_of, middle}
 
 -- 1 if the test passes
 abbrev one_if : Bool → ℕ
@@ -200,15 +200,11 @@ module _ (W H : ℕ) (places : List Place) (grid : IsGrid W H places) (columns :
   all_lie : (ps before : List Place) → before ++ ps ≡ places → AllByRecursion (IsPlaced W H) ps
   all_lie [] before split = tt
   all_lie (p ∷ ps) before split = (
-    subst (IsPlaced W H) (ap (λ (l : List Place). get_or l (length before) p) (sym split) ∙ middle before p ps)
+    subst (IsPlaced W H) (ap (λ (l : List Place). get_or l (length before) p) (sym split) ∙ middle before p ps p)
         (grid.placed (length before) p (let long : length (before ++ p ∷ ps) ≡ length places = ap length split in
         let sum : length (before ++ p ∷ ps) ≡ length before + length (p ∷ ps) = length-append before (p ∷ ps) in omega arith)),
     all_lie ps (before ++ p ∷ []) (append_assoc before (p ∷ []) ps ∙ split),
   )
-    where
-      middle : (xs : List Place) (x : Place) (ys : List Place) → get_or (xs ++ x ∷ ys) (length xs) x ≡ x
-      middle [] x ys = refl
-      middle (y ∷ xs) x ys = middle xs x ys
 
   -- the grid of the rows is the grid
   pub grid_again : (rows : List (List Place)) → flat_map (λ (ps : List Place). ps) rows ≡ places →

@@ -59,7 +59,8 @@ begins table layout = (
       List ℕ) HtmlCell block_page table_page cell_page table),
 )
 
-kinds_are : (tokens : List Token) → kinds tokens ≡ map class_of (map kind_of tokens)
+-- the kinds of tokens are those of what they are to the grammar
+pub kinds_are : (tokens : List Token) → kinds tokens ≡ map class_of (map kind_of tokens)
 kinds_are [] = refl
 kinds_are (t ∷ tokens) = ap (λ (ks : Kinds). class_of t.kind ∷ ks) (kinds_are tokens)
 

@@ -9,7 +9,7 @@ use Rattle.std.proofs.lemmas.List.Elements.{recursion_from_All, All-contains, Al
 use Rattle.std.proofs.lemmas.List.Sorted.{IsPermutation-refl}
 use Rattle.tl_base.specs.declared.breaking.Breaking.{Breaking}
 use Rattle.tl_base.specs.declared.limits.TheConstants.{MAX_COLUMNS, MAX_ROWS, MAX_CELLS, MAX_PAGE_WIDTH}
-use Rattle.tl_base.proofs.Members.{All-from_Contains, AllByRecursion-append}
+use Rattle.tl_base.proofs.Members.{All-from_Contains, AllByRecursion-append, AllByRecursion-prefix}
 use Rattle.tl_base.proofs.Zips.{AllZip-append}
 use Rattle.tl_grid.specs.declared.shape.Grid.{Grid}
 use Rattle.tl_grid.specs.declared.shape.Place.{Place}
@@ -64,12 +64,6 @@ use Rattle.tl_html.proofs.TableRows as table_rows
 use Rattle.tl_html.proofs.TableParts.{BeginInRows, rows_written, no_captions, columns_items, columns_are, columns_written}
 use Rattle.tl_html.proofs.TableParts.{columns_read}
 use Rattle.tl_html.proofs.TableParts.{part_marks, groups_of, group_of, parts_read, parts_stand, CaptionBack, caption_back}
-
--- ---- lists
-
-prefix_of : {X : Type 0} (P : X → Type 0) (xs ys : List X) → AllByRecursion P (xs ++ ys) → AllByRecursion P xs
-prefix_of P [] ys all = tt
-prefix_of P (x ∷ xs) ys all = (all.0, prefix_of P xs ys all.1)
 
 -- ---- lists of lists
 
@@ -213,7 +207,7 @@ module _ (breaking : Breaking) (forms : TableNode → Table → Type 0) (alike :
         (flat_map (λ c. tables_in (out-TableCell c)) (joined rows) ++ []) (k + 1)
     cap = caption_back breaking forms alike has inside T.cols spelt.caption L.inner
         (flat_map (λ c. tables_in (out-TableCell c)) (joined rows) ++ []) (k + 1) spelt.captioned
-        (prefix_of (λ c. AreSpellableBlocks breaking (out-TableCell c).blocks) spelt.caption below words_split)
+        (AllByRecursion-prefix (λ c. AreSpellableBlocks breaking (out-TableCell c).blocks) spelt.caption below words_split)
         (subst (λ (ts : List Table). AllZip has ts L.inner) tables_are fits.inner)
 
     rest : RowsBack breaking forms alike has inside rows cap.layouts [] cap.next

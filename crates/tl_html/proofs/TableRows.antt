@@ -1,10 +1,10 @@
 -- The rows of a table: its cells below the caption, row by row, and the grid that they are.
-use Rattle.std.proofs.Common.{◌≡◌, ◌∙◌, ◌⊎◌, ℕ, zero, suc, ◌+◌, ◌-◌, ◌<◌, ◌≤◌, max, List, [], ◌∷◌, ◌++◌, map}
+use Rattle.std.proofs.Common.{◌≡◌, ◌∙◌, ◌⊎◌, ℕ, zero, suc, ◌+◌, ◌-◌, ◌<◌, ◌≤◌, max, List, [], ◌∷◌, ◌++◌, map, length-append}
 use Rattle.std.proofs.Common.{length, get_or}
 use Rattle.std.proofs.Common.{Contains, All, refl, sym, ap, subst, inl, inr, arith}
 use Rattle.std.specs.List.{AllByRecursion, AllPairs, Any}
 use Rattle.std.proofs.lemmas.Bool.{cases_lt}
-use Rattle.std.proofs.lemmas.List.{length-map, get_or-map, map-append}
+use Rattle.std.proofs.lemmas.List.{length-map, get_or-map, map-append, get_or-append-add}
 use Rattle.std.proofs.lemmas.List.Elements.{recursion_from_All, All-contains, Contains-append_cases, Contains-append_left}
 use Rattle.std.proofs.lemmas.List.Elements.{Contains-append_right}
 use Rattle.tl_base.specs.declared.breaking.Breaking.{Breaking}
@@ -43,21 +43,11 @@ raised_lowered down place =
 
 -- ---- lists
 
-get_past : {X : Type 0} (xs ys : List X) (i : ℕ) (d : X) → get_or (xs ++ ys) (length xs + i) d ≡ get_or ys i d
-get_past [] ys i d = ap (λ n. get_or ys n d) (let same : 0 + i ≡ i = omega arith in same)
-get_past (x ∷ xs) ys i d =
-    ap (λ n. get_or (x ∷ (xs ++ ys)) n d) (let same : suc (length xs) + i ≡ suc (length xs + i) = omega arith in
-    same) ∙ get_past xs ys i d
-
-length_past : {X : Type 0} (xs ys : List X) → length (xs ++ ys) ≡ length xs + length ys
-length_past [] ys = omega arith
-length_past (x ∷ xs) ys = let rest = length_past xs ys in omega arith
-
 pairs_suffix : {X : Type 0} (R : X → X → Type 0) (xs ys : List X) → AllPairs R (xs ++ ys) → AllPairs R ys
 pairs_suffix R xs ys pairs i j d before within =
-    subst (λ x. R x (get_or ys j d)) (get_past xs ys i d)
-    (subst (R (get_or (xs ++ ys) (length xs + i) d)) (get_past xs ys j d)
-    (pairs (length xs + i) (length xs + j) d (omega arith) (omega (arith, length_past xs ys))))
+    subst (λ x. R x (get_or ys j d)) (get_or-append-add xs ys i d)
+    (subst (R (get_or (xs ++ ys) (length xs + i) d)) (get_or-append-add xs ys j d)
+    (pairs (length xs + i) (length xs + j) d (omega arith) (omega (arith, length-append xs ys))))
 
 module _ (down : ℕ) where
   abbrev pub ups : List Place → List Place

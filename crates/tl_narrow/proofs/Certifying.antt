@@ -12,6 +12,8 @@ use Rattle.tl_base.specs.declared.limits.TheConstants.{MAX_PAGE_WIDTH, MAX_BUDGE
 use Rattle.tl_base.specs.declared.style.Style.{Style}
 use Rattle.tl_base.specs.declared.chain.Chain.{Chain}
 use Rattle.tl_base.proofs.Decreasing.{last_or-take}
+use Rattle.tl_base.proofs.Members.{AllByRecursion-weaker}
+use Rattle.tl_base.proofs.Options.{Some-same}
 use Rattle.tl_problem.specs.Problem.{ProblemModel}
 use Rattle.tl_cert.proofs.reading.Words.{within-word}
 use Rattle.tl_cert.specs.declared.certificate.Certificate.{Certificate}
@@ -180,14 +182,7 @@ all_at P [] all i d within = absurd (omega (arith, within))
 all_at P (x ∷ xs) all zero d within = all.0
 all_at P (x ∷ xs) all (suc i) d within = all_at P xs all.1 i d (omega (arith, within))
 
-map_all : {X : Type 0} (P Q : X → Type 0) → ((x : X) → P x → Q x) → (xs : List X) → AllByRecursion P xs → AllByRecursion Q xs
-map_all P Q f [] all = tt
-map_all P Q f (x ∷ xs) all = (f x all.0, map_all P Q f xs all.1)
-
 -- ---- the sections of a page
-
-some_same : {X : Type 0} (x y : X) → Some x ≡ Some y → x ≡ y
-some_same x y e = cc
 
 -- the last section, as the claim sees it
 pub record IsLast (sections : List Section) (section : Section) : Type 0 where
@@ -200,7 +195,7 @@ last_of sections some = get_or sections (length sections - 1) (first_of sections
 pub last_is : (sections : List Section) (some : 0 < length sections) → IsLast sections (last_of sections some)
 last_is sections some =
     let found : last_or None sections ≡ Some (last_of sections some) = last_found sections (first_of sections some) some in
-    record { found = found; at = λ d. some_same _ _ (sym (last_found sections d some) ∙ found) }
+    record { found = found; at = λ d. Some-same (sym (last_found sections d some) ∙ found) }
 
 module _ (given : ProblemModel → Outcome → Type 0) (table : Table) (style : Style) (page budget : ℕ) (sections : List Section)
     (are : AreSectionsOf given table style page budget sections) (can : AreWritable sections)
@@ -268,13 +263,13 @@ module _ (given : ProblemModel → Outcome → Type 0) (table : Table) (style : 
     shaped_wide (claim_of sections) (certificate_of page style budget sections) (claim_is_wide sections) (record {
       some = can.some;
       most = can.most;
-      sections = map_all IsSectionWritable IsSectionShaped (λ section is. is.0) sections can.each;
+      sections = AllByRecursion-weaker IsSectionWritable IsSectionShaped sections (λ section is. is.0) can.each;
       no_chain = refl;
     }),
     pieces_within (certificate_of page style budget sections) more less cuts
         (subst (λ (claim : Claim). AllWithin (claim_pieces claim)) (sym claim_same)
         (section_claims last_section (last_section.lower == last_section.height) numbers))
-        tt (map_all IsSectionWritable (λ section. AllWithin (section_pieces section)) (λ section is. is.1) sections can.each),
+        tt (AllByRecursion-weaker IsSectionWritable (λ section. AllWithin (section_pieces section)) sections (λ section is. is.1) can.each),
   )
 
   -- an open last section is not closed
@@ -391,13 +386,13 @@ module _ (table : Table) (style : Style) (page budget least : ℕ) (chains : Lis
       (IsLeastWidth-unique table style heaviest.0 least heaviest.1 is_least) heaviest.2.chain) in (
         record {
           some = can.0;
-          entries = map_all IsChainWritable (λ chain. 1 ≤ length chain.entries) (λ chain is. is.0) chains can.1;
+          entries = AllByRecursion-weaker IsChainWritable (λ chain. 1 ≤ length chain.entries) chains (λ chain is. is.0) can.1;
           no_section = refl;
         },
         pieces_within (narrow_by []) more less cuts
             (within-append (word (codes "narrow ")) (field 0 MAX_HEIGHT least line_feed) (within-word (codes "narrow "))
             ((omega arith, small), (tt, tt)))
-            (map_all IsChainWritable (λ chain. AllWithin (chain_pieces chain)) (λ chain is. is.1) chains can.1) tt,
+            (AllByRecursion-weaker IsChainWritable (λ chain. AllWithin (chain_pieces chain)) chains (λ chain is. is.1) can.1) tt,
       )
 
   pub valid_narrow : (sections : List Section) → sections ≡ [] → IsValid table style page budget (narrow_by sections)

@@ -1,12 +1,13 @@
 -- Sections that were found on all of them, put in the order of a certificate: each is good on those before it.
-use Rattle.std.proofs.Common.{◌≡◌, ◌∙◌, ℕ, zero, suc, ◌+◌, ◌-◌, ◌<◌, ◌≤◌, List, [], ◌∷◌, ◌++◌, inl, inr, length, get_or}
+use Rattle.std.proofs.Common.{◌≡◌, ◌∙◌, ℕ, zero, suc, ◌+◌, ◌-◌, ◌<◌, ◌≤◌, List, [], ◌∷◌, inl, inr, length, get_or}
 use Rattle.std.proofs.Common.{take}
 use Rattle.std.proofs.Common.{Some, Contains, refl, sym, ap, subst, arith}
 use Rattle.std.specs.List.{All}
 use Rattle.std.proofs.lemmas.Bool.{cases_lt}
-use Rattle.std.proofs.lemmas.List.{get_or_default, take_all, take_more}
+use Rattle.std.proofs.lemmas.List.{get_or_default, take_all}
 use Rattle.tl_base.specs.Style.{gap_of, edge_of}
 use Rattle.tl_base.specs.Sizes.{total}
+use Rattle.tl_base.proofs.Taken.{taken_more}
 use Rattle.tl_problem.specs.Problem.{ProblemModel}
 use Rattle.tl_cert.specs.declared.section.Section.{Section}
 use Rattle.tl_table.specs.declared.cell.Table.{Table}
@@ -156,7 +157,7 @@ module _ (subject : Subject) (is : IsSubject subject) (fits : IsWideEnough subje
         (due_after document (take (n + 1) sections))
         (may subject is fits (take n sections) budget good now due) before one text refl
         (within_due document budget (take n sections) section now (placed_width document.style section) one.good due refl)
-        (take_more sections n no_section within ∙ ap (λ (s : Section). take n sections ++ s ∷ []) (sym at))
+        (taken_more sections n no_section section within at)
         (due_after-more document sections n no_section within
         ∙ ap (λ due. due_next document due (get_or sections n no_section)) due
         ∙ ap (λ (s : Section). next_due document section.table (placed_width document.style s)) (sym at))

@@ -1,5 +1,5 @@
 pub mod Ready
-mod Written
+pub mod Written
 mod Counted
 mod Made
 mod SameSteps

@@ -15,6 +15,7 @@ use Rattle.tl_base.specs.Style.{gap_of, edge_of}
 use Rattle.tl_problem.specs.declared.placed.Placed.{Placed}
 use Rattle.tl_problem.specs.Problem.{ProblemModel}
 use Rattle.tl_base.specs.Sizes.{total}
+use Rattle.tl_base.proofs.SizeLaws.{total-within}
 use Rattle.tl_problem.specs.Sound as problem_sound
 use Rattle.tl_cert.specs.declared.section.Section.{Section}
 use Rattle.tl_cert.specs.Text.{IsSectionWritable}
@@ -36,7 +37,7 @@ use Rattle.tl_nested.specs.inner.Found.{section_of}
 use Rattle.tl_nested.specs.inner.SoFar.{AreSoFar, sections_left}
 use Rattle.tl_nested.proofs.Counted.{few_enough, left_falls}
 use Rattle.tl_nested.proofs.Ready.{by_law, may, narrow, sound_one}
-use Rattle.tl_nested.proofs.Written.{total_within, written}
+use Rattle.tl_nested.proofs.Written.{written}
 
 module _ (subject : Subject) (is : IsSubject subject) (fits : IsWideEnough subject) (before : List Section) (budget : ℕ)
     (good : AreGoodBelow (meant subject) budget before (length before)) (now : Due)
@@ -86,7 +87,7 @@ module _ (subject : Subject) (is : IsSubject subject) (fits : IsWideEnough subje
         some = solved.good.some;
         short = solved.short;
         columns = omega (arith, placement.page.columns, at.sound.few_columns);
-        widths = total_within (gap_of problem.style) (edge_of problem.style) MAX_PAGE_WIDTH outcome.best.widths
+        widths = total-within (gap_of problem.style) (edge_of problem.style) MAX_PAGE_WIDTH outcome.best.widths
             (omega (arith, placement.page.page, at.made.wide, narrow_page));
         trace = solved.trace_writable;
         log = solved.log_writable;

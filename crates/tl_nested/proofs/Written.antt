@@ -1,10 +1,8 @@
 -- A section within its ranges can be written.
-use Rattle.std.proofs.Common.{ℕ, ◌+◌, ◌*◌, ◌<◌, ◌≤◌, List, [], ◌∷◌, ◌++◌, length, sum, codes, sym, subst, arith}
+use Rattle.std.proofs.Common.{ℕ, ◌+◌, ◌*◌, ◌<◌, ◌≤◌, List, [], ◌∷◌, ◌++◌, length, codes, sym, subst, arith}
 use Rattle.std.specs.List.{AllByRecursion, flat_map}
 use Rattle.std.proofs.lemmas.List.Concat.{flat_map-cons}
 use Rattle.tl_base.specs.declared.limits.TheConstants.{MAX_BUDGET, MAX_COLUMNS, MAX_HEIGHT, MAX_PAGE_WIDTH}
-use Rattle.tl_base.proofs.Sums.{sum-cons}
-use Rattle.tl_base.specs.Sizes.{total}
 use Rattle.tl_cert.specs.declared.limits.TheConstants.{MAX_TABLE}
 use Rattle.tl_cert.specs.declared.section.Section.{Section}
 use Rattle.tl_cert.specs.Pieces.{field, word, AllWithin}
@@ -16,22 +14,8 @@ use Rattle.tl_cert.proofs.reading.Words.{within-word}
 fields : (low high value end : ℕ) → low ≤ value → value ≤ high → AllWithin (field low high value end)
 fields low high value end more less = ((more, less), (tt, tt))
 
--- each of some widths is within the page where their total is
-sum_within : (most : ℕ) (widths : List ℕ) → sum widths ≤ most → AllByRecursion (λ w. w ≤ most) widths
-sum_within most [] all = tt
-sum_within most (w ∷ widths) all =
-    let whole = sum-cons w widths in
-    (omega (arith, whole, all), sum_within most widths (omega (arith, whole, all)))
-
-pub total_within : (gap edge most : ℕ) (widths : List ℕ) → total gap edge widths ≤ most → AllByRecursion (λ w. w ≤ most) widths
-total_within gap edge most [] all = tt
-total_within gap edge most (w ∷ widths) all =
-    (omega (arith, all, le-all w (sum widths) (gap * length widths) (2 * edge)), sum_within most widths (omega (arith, all)))
-  where
-    le-all : (a b c d : ℕ) → a ≤ a + b + c + d
-    le-all a b c d = omega arith
-
-spaced_within : (widths : List ℕ) → AllByRecursion (λ w. w ≤ MAX_PAGE_WIDTH) widths →
+-- widths within those of pages can be written
+pub spaced_within : (widths : List ℕ) → AllByRecursion (λ w. w ≤ MAX_PAGE_WIDTH) widths →
     AllWithin (flat_map (spaced MAX_PAGE_WIDTH) widths)
 spaced_within [] all = tt
 spaced_within (w ∷ widths) all = subst AllWithin (sym (flat_map-cons (spaced MAX_PAGE_WIDTH) w widths))

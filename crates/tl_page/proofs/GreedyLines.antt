@@ -3,7 +3,7 @@ use Rattle.std.proofs.Common.{◌≡◌, ◌≢◌, ℕ, ◌+◌, ◌≤◌, Lis
 use Rattle.std.specs.List.{AllByRecursion, AllZip}
 use Rattle.std.proofs.lemmas.List.{length-append}
 use Rattle.std.proofs.lemmas.List.Sums.{sum_by-cons}
-use Rattle.tl_base.proofs.Members.{AllByRecursion-suffix}
+use Rattle.tl_base.proofs.Members.{AllByRecursion-suffix, AllByRecursion-prefix}
 use Rattle.tl_text.specs.declared.paragraph.Atom.{Atom}
 use Rattle.tl_text.specs.Paragraph.{unit_width, gap_before, lined_pieces}
 use Rattle.tl_text.specs.Cuttings.{joined, line_width, IsPieceCut, IsCutting, HoldsIn, FillsLines, IsGreedyCutting}
@@ -13,10 +13,6 @@ use Rattle.tl_text.proofs.Paragraphs.{greedy_cut-least, atoms-of-cut-fit}
 
 abbrev Holds : ℕ → List Atom → Type 0
 Holds w line = line_width line ≤ w
-
-first_part : {X : Type 0} (P : X → Type 0) (xs ys : List X) → AllByRecursion P (xs ++ ys) → AllByRecursion P xs
-first_part P [] ys all = tt
-first_part P (x ∷ xs) ys all = (all.0, first_part P xs ys all.1)
 
 -- units that fit on the open line begin no further one
 more-along : (w used : ℕ) (units rest : List Atom) → used + sum_by unit_width units + sum_by gap_before units ≤ w →
@@ -83,7 +79,7 @@ pieces-same w (piece ∷ pieces) (lines ∷ cut) is holds filled =
       arith,
       length-append lines (joined cut),
       length-append (piece_lines w piece) (joined (map (piece_lines w) pieces)),
-      piece-same w piece lines is.0 (first_part (Holds w) lines (joined cut) holds) filled.0,
+      piece-same w piece lines is.0 (AllByRecursion-prefix (Holds w) lines (joined cut) holds) filled.0,
       pieces-same w pieces cut is.1 (AllByRecursion-suffix (Holds w) lines (joined cut) holds) filled.1,
     )
 

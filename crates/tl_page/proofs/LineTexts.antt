@@ -3,9 +3,10 @@ use Rattle.std.proofs.Common.{◌≡◌, ℕ, suc, ◌+◌, ◌<◌, List, [], �
 use Rattle.std.proofs.Common.{append_assoc}
 use Rattle.std.proofs.Common.{append-nil, if◌then◌else◌, ne_eqb}
 use Rattle.std.specs.List.{flat_map}
-use Rattle.std.proofs.lemmas.List.{take_more, length-take-le}
+use Rattle.std.proofs.lemmas.List.{length-take-le}
 use Rattle.std.proofs.lemmas.List.Concat.{flat_map-append}
 use Rattle.std.proofs.lemmas.List.Sums.{sum_by-cons}
+use Rattle.tl_base.proofs.Taken.{taken_more}
 use Rattle.tl_text.specs.declared.paragraph.Atom.{Atom}
 use Rattle.tl_text.specs.declared.paragraph.Atom.TheVariants.{Break}
 use Rattle.tl_text.specs.Paragraph.{unit_width, gap_before}
@@ -62,8 +63,7 @@ pub units_more : (units : List Atom) (n : ℕ) (unit : Atom) → n < length unit
     (line_text (take (n + 1) units) ≡ line_text (take n units) ++ (spaces (gap_in_line n unit) ++ text_of unit))
     × (line_width (take (n + 1) units) ≡ line_width (take n units) + (gap_in_line n unit + unit_width unit))
 units_more units n unit within is =
-    let more : take (n + 1) units ≡ take n units ++ unit ∷ [] =
-    take_more units n unit within ∙ ap (λ last. take n units ++ last ∷ []) (sym is) in
+    let more = taken_more units n unit unit within is in
     let place : length (take n units) ≡ n = length-take-le n units (omega arith) in (
       ap line_text more ∙ line_text-push (take n units) unit
           ∙ ap (λ at. line_text (take n units) ++ (spaces (gap_in_line at unit) ++ text_of unit)) place,

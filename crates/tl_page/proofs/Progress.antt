@@ -3,16 +3,17 @@ use Rattle.std.proofs.Common.{◌≡◌, ℕ, ◌+◌, ◌<◌, ◌≤◌, List,
 use Rattle.std.proofs.Common.{ap, ap₂}
 use Rattle.std.proofs.Common.{subst, append_assoc, append-nil, arith}
 use Rattle.std.specs.List.{All, AllZip, flat_map}
-use Rattle.std.proofs.lemmas.List.{take_more, take_all, drop_more, drop_all, map_push, length-map, get_or-map}
+use Rattle.std.proofs.lemmas.List.{take_all, drop_more, drop_all, map_push, length-map, get_or-map}
 use Rattle.std.proofs.lemmas.List.Concat.{flat_map-append}
 use Rattle.std.proofs.lemmas.List.Sums.{sum_by-cons}
-use Rattle.tl_base.proofs.Zips.{AllZip-push, AllZip-weaker, AllZip-length}
+use Rattle.tl_base.proofs.Zips.{AllZip-weaker, AllZip-length}
 use Rattle.tl_base.specs.declared.limits.TheConstants.{MAX_HEIGHT, MAX_PAGE_WIDTH}
 use Rattle.tl_base.specs.declared.style.Style.{Style}
 use Rattle.tl_base.specs.Style.{gap_of, row_gap_of, edge_of}
 use Rattle.tl_grid.specs.Dropping.{IsPlaced}
 use Rattle.tl_grid.specs.declared.shape.Place.{Place}
 use Rattle.tl_base.proofs.SizeLaws.{room-total}
+use Rattle.tl_base.proofs.Taken.{taken_more, AllZip-taken}
 use Rattle.tl_table.specs.declared.cell.Content.{Content as Block, out-Content}
 use Rattle.tl_table.specs.declared.cell.Table.{Table, out-Table}
 use Rattle.tl_table.specs.declared.cell.TableCell.{TableCell, out-TableCell}
@@ -43,10 +44,6 @@ pub left_first : {A B : Type 0} (R : A → B → Type 0) (xs : List A) (i : ℕ)
 left_first R xs i x ys within is all =
     AllZip-first R x (drop (i + 1) xs) ys
     (subst (λ some. AllZip R some ys) (drop_more xs i x within ∙ ap (λ first. first ∷ drop (i + 1) xs) (sym is)) all)
-
-pub taken_more : {A : Type 0} (xs : List A) (i : ℕ) (x : A) → i < length xs → x ≡ get_or xs i x →
-    take (i + 1) xs ≡ take i xs ++ x ∷ []
-taken_more xs i x within is = take_more xs i x within ∙ ap (λ last. take i xs ++ last ∷ []) (sym is)
 
 pub flat_map-push : {X A : Type 0} (f : X → List A) (xs : List X) (x : X) → flat_map f (xs ++ x ∷ []) ≡ flat_map f xs ++ f x
 flat_map-push f xs x = flat_map-append f xs (x ∷ []) ∙ ap (λ last. flat_map f xs ++ last) (append-nil (f x))
@@ -140,8 +137,7 @@ blocks-more style w blocks inner start i next after lines new block within is so
     record {
       depth = deep;
       parts = sofar.parts ++ part.content ∷ [];
-      shows = subst (λ some. AllZip shown some (sofar.parts ++ part.content ∷ [])) (sym (taken_more blocks i block within is))
-          (AllZip-push shown (take i blocks) sofar.parts block part.content others this);
+      shows = AllZip-taken shown blocks sofar.parts i block block part.content within is others this;
       written = part.written ∙ ap (λ before. before ++ part.content.lines) sofar.written
           ∙ sym (flat_map-push (λ (part : Content). part.lines) sofar.parts part.content);
       rest = ap (λ used. used ++ drop after inner) (flat_map-push (λ (part : Content). part.inner) sofar.parts part.content)
@@ -305,7 +301,7 @@ cells-more style table layout i next after cells lines cell within is sofar part
     let this : shown cell part.content =
     ShowsCell-weaker (ShowsWithin part.depth style) (ShowsWithin deep style) (ShowsWithin-deeper' sofar.depth part.depth style)
     style (room cell) (out-TableCell cell) part.content part.shows in
-    let taken = taken_more table.cells i cell within is in
+    let taken = taken_more table.cells i cell cell within is in
     let lines_of = λ (content : Content). content.lines in
     let many : length (map place_of (take i table.cells)) ≡ length (map lines_of sofar.contents) =
     length-map (take i table.cells) place_of ∙ AllZip-length shown (take i table.cells) sofar.contents others ∙ sym
@@ -315,8 +311,7 @@ cells-more style table layout i next after cells lines cell within is sofar part
     record {
       depth = deep;
       contents = sofar.contents ++ part.content ∷ [];
-      shows = subst (λ some. AllZip shown some (sofar.contents ++ part.content ∷ [])) (sym taken)
-          (AllZip-push shown (take i table.cells) sofar.contents cell part.content others this);
+      shows = AllZip-taken shown table.cells sofar.contents i cell cell part.content within is others this;
       written = ap₂ (λ (before : List Drawn) (last : List Line). before ++ drawn_cell style layout.widths layout.heights
           (place_of cell) last ∷ [])
           sofar.written part.written

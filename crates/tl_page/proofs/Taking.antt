@@ -8,8 +8,9 @@ use Rattle.std.proofs.lemmas.List.{drop_all, take_all, drop_more, length-drop}
 use Rattle.std.proofs.lemmas.List.Sums.{sum_by-cons, sum_by-append}
 use Rattle.std.specs.declared.alloc.Global.{Global}
 use Rattle.std.specs.declared.boxed.Box.{Box}
-use Rattle.tl_base.proofs.Zips.{AllZip-push, AllZip-weaker}
+use Rattle.tl_base.proofs.Zips.{AllZip-weaker}
 use Rattle.tl_base.specs.declared.style.Style.{Style}
+use Rattle.tl_base.proofs.Taken.{AllZip-taken}
 use Rattle.tl_text.specs.declared.paragraph.Atom.{Atom}
 use Rattle.tl_text.specs.Paragraph.{unit_width}
 use Rattle.tl_text.specs.Cuttings.{LeastLines}
@@ -25,7 +26,7 @@ use Rattle.tl_table.specs.Layouts.{total_height, width_for, height_for}
 use Rattle.tl_table.proofs.Deeper.{FitsShare-weaker, FitsRoom-weaker, FitsWithin-deeper, FitsWithin-deeper'}
 use Rattle.tl_page.specs.declared.measure.Taken.{Taken}
 use Rattle.tl_page.specs.inner.Taking.{TakesBlock, TakesCell, TakesTable}
-use Rattle.tl_page.proofs.Progress.{left_first, taken_more, flat_map-push, one_further}
+use Rattle.tl_page.proofs.Progress.{left_first, flat_map-push, one_further}
 
 -- ---- levels
 
@@ -191,8 +192,7 @@ blocks_taken-more style w blocks inner start i lines next block taken within is 
     record {
       level = deep;
       shares = sofar.shares ++ share ∷ [];
-      fits = subst (λ some. AllZip fit some (sofar.shares ++ share ∷ [])) (sym (taken_more blocks i block within is))
-          (AllZip-push fit (take i blocks) sofar.shares block share others this);
+      fits = AllZip-taken fit blocks sofar.shares i block block share within is others this;
       used = omega (
         arith,
         sum_by-append (λ (share : Share). share.height) sofar.shares (share ∷ []),
@@ -332,8 +332,7 @@ module _ (style : Style) (layout : OpenLayout) where
       record {
         level = deep;
         parts = sofar.parts ++ given ∷ [];
-        fits = subst (λ some. AllZip fit some (sofar.parts ++ given ∷ [])) (sym (taken_more cells i cell within is))
-            (AllZip-push fit (take i cells) sofar.parts cell given others this);
+        fits = AllZip-taken fit cells sofar.parts i cell cell given within is others this;
         rest = ap (λ used. used ++ drop past layout.inner) (flat_map-push (λ (given : List Layout). given) sofar.parts given)
             ∙ one_further (flat_map (λ given. given) sofar.parts) given (drop past layout.inner) (drop next layout.inner)
             layout.inner

@@ -2,12 +2,12 @@
 use Rattle.std.proofs.Common.{◌≡◌, ℕ, ◌+◌, ◌-◌, ◌*◌, ◌/◌, ◌%◌, ◌<◌, ◌≤◌, suc, min, ℤ, pos, List, [], ◌∷◌, ◌++◌, inl, inr, length}
 use Rattle.std.proofs.Common.{get_or}
 use Rattle.std.proofs.Common.{Some, refl, sym, ap, ◌∙◌, subst, arith}
-use Rattle.std.specs.List.{AllZip, sum_by}
+use Rattle.std.specs.List.{sum_by}
 use Rattle.std.specs.Int.{div_ceil}
 use Rattle.std.proofs.lemmas.Int.{ints}
 use Rattle.std.proofs.lemmas.Bool.{cases_lt}
 use Rattle.std.proofs.lemmas.Nat.{div-add-mod', mod_below}
-use Rattle.std.proofs.lemmas.List.{length_push}
+use Rattle.std.proofs.lemmas.List.{length_push, get_or_default}
 use Rattle.std.proofs.lemmas.List.Sums.{sum_by-cons, sum_by_push, get_or-le-sum_by}
 use Rattle.std.proofs.Math.Nat.{mul-le-mul, mul-le-mul_right}
 use Rattle.tl_base.specs.declared.limits.TheConstants.{MAX_HEIGHT, MAX_PAGE_WIDTH}
@@ -29,6 +29,7 @@ use Rattle.tl_problem.specs.inner.Needs.{IsLeastRoom}
 use Rattle.tl_problem.specs.inner.Least.{area_with, IsLeastStep, HaveAreas}
 use Rattle.tl_problem.proofs.Heights.{height-from_first, IsLowAt-from}
 use Rattle.tl_base.proofs.SizeLaws.{total-position, room-position, position-mono}
+use Rattle.tl_base.proofs.Zips.{AllZip-from_places}
 use Rattle.tl_problem.proofs.NeedLemmas.{upto-push, all-most, sum-le, height-le, low-le}
 use Rattle.tl_problem.proofs.WorkLemmas.{left-from, left-position}
 use Rattle.tl_problem.proofs.ConstraintLemmas.{gap-few, gap-some}
@@ -88,16 +89,6 @@ HaveAreas-more problem Among k total least h one = record {
   each = upto-push (λ j v. IsLeastArea problem Among (cell_at problem.cells j) v) h.areas least k h.count h.each one;
   sums = omega (arith, sum_by_push (λ x. x) h.areas least, h.sums);
 }
-
-AllZip-from : (R : Cell → ℕ → Type 0) (cells : List Cell) (ns : List ℕ) → length ns ≡ length cells →
-    ((k : ℕ) → k < length cells → R (cell_at cells k) (get_or ns k 0)) → AllZip R cells ns
-AllZip-from R [] [] same each = tt
-AllZip-from R [] (n ∷ ns) same each = absurd (omega arith)
-AllZip-from R (c ∷ cells) [] same each = absurd (omega arith)
-AllZip-from R (c ∷ cells) (n ∷ ns) same each = (
-  each 0 (omega arith),
-  AllZip-from R cells ns (omega arith) (λ k within. each (suc k) (omega arith)),
-)
 
 -- ---- rounded up
 
@@ -261,7 +252,11 @@ module _ (problem : ProblemModel) (sound : IsSound problem) (Among : List ℕ �
       record {
         areas = h.areas;
         end = end;
-        least = AllZip-from (IsLeastArea problem Among) problem.cells h.areas h.count h.each;
+        least = AllZip-from_places (IsLeastArea problem Among) problem.cells h.areas (sym h.count)
+            (λ k d e within.
+            subst (λ c. IsLeastArea problem Among c (get_or h.areas k e)) (get_or_default problem.cells k no_cell d within)
+            (subst (IsLeastArea problem Among (cell_at problem.cells k))
+            (get_or_default h.areas k 0 e (omega (arith, within, h.count))) (h.each k within)));
         greatest = greatest;
         rounded = subst (λ n. IsRoundedUp n end (div_ceil total end)) (sym h.sums) (rounded-up total end some);
       },

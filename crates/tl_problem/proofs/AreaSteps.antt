@@ -5,20 +5,14 @@ use Rattle.std.proofs.Common.{filter, Option, Some, None, refl, sym, ap, ◌∙�
 use Rattle.std.specs.List.{AllPairs, last_or}
 use Rattle.std.specs.Option.{option_map}
 use Rattle.std.proofs.lemmas.Bool.{cases_eq, cases_lt}
-use Rattle.std.proofs.lemmas.Bool.Decides.{nat_tests}
 use Rattle.std.proofs.Math.Nat.{mul-le-mul}
 use Rattle.tl_base.specs.declared.steps.Config.{Config}
 use Rattle.tl_base.specs.Steps.{AreSteps, height_at}
-use Rattle.tl_base.proofs.Decreasing.{Falls}
+use Rattle.tl_base.proofs.Decreasing.{Falls, le_test}
+use Rattle.tl_base.proofs.Members.{AllPairs-tail}
 use Rattle.tl_problem.specs.inner.Least.{step_at, area_with, IsLeastStep}
 use Rattle.tl_problem.proofs.NeedLemmas.{filter-none}
 use Rattle.tl_problem.proofs.Heights.{test_le, test_le_false}
-
-le_test : (a b : ℕ) → nat_le a b ≡ true → a ≤ b
-le_test a b is = grind (arith, nat_tests)
-
-tail : (step : Config) (steps : List Config) → AllPairs Falls (step ∷ steps) → AllPairs Falls steps
-tail step steps decreasing i j d before within = decreasing (suc i) (suc j) d (omega arith) (omega arith)
 
 -- steps wider than a width are none that begin up to it
 wider-none : (w : ℕ) (step : Config) (steps : List Config) → AllPairs Falls (step ∷ steps) → w ≤ step.width →
@@ -54,7 +48,7 @@ at-step o (step ∷ steps) decreasing zero within =
 at-step o (step ∷ steps) decreasing (suc k) within =
     let wide = decreasing 0 (suc k) (record { width = 0; height = 0 }) (omega arith) within in
     let keep = test_le step.width (step_at steps k).width (omega (arith, wide.0)) in
-    rw keep (at-step (Some step) steps (tail step steps decreasing) k (omega arith))
+    rw keep (at-step (Some step) steps (AllPairs-tail Falls step steps decreasing) k (omega arith))
 
 pub height-at-step : (steps : List Config) → AreSteps steps → (k : ℕ) → k < length steps →
     height_at steps (step_at steps k).width ≡ Some (step_at steps k).height
@@ -80,7 +74,7 @@ between o (step ∷ steps) decreasing low w more s is =
       | inr early ↦
           let one = test_le step.width low early in
           let other = test_le step.width w (omega arith) in
-          rw one (shift (Some step) step steps low w s (between (Some step) steps (tail step steps decreasing) low w more s
+          rw one (shift (Some step) step steps low w s (between (Some step) steps (AllPairs-tail Falls step steps decreasing) low w more s
           (rw other at is)))
       | inl late ↦
           let out = test_le_false step.width low late in
@@ -88,7 +82,7 @@ between o (step ∷ steps) decreasing low w more s is =
           elim (cases_lt w step.width) [
             | inl past ↦
                 let also = test_le_false step.width w past in
-                rw out (shift o step steps low w s (between o steps (tail step steps decreasing) low w more s (rw also at is)))
+                rw out (shift o step steps low w s (between o steps (AllPairs-tail Falls step steps decreasing) low w more s (rw also at is)))
             | inr within ↦
                 let keep = test_le step.width w within in
                 elim (last-from (λ x. nat_le x.width w) step steps s (rw keep at is)) [
@@ -112,7 +106,7 @@ between o (step ∷ steps) decreasing low w more s is =
                         suc later.0,
                         (
                           omega (arith, later.1.0),
-                          (later.1.1.0, (omega (arith, wide.0, ap (λ x. x.width) later.1.1.0), le_test s.width w later.1.1.1)),
+                          (later.1.1.0, (omega (arith, wide.0, ap (λ x. x.width) later.1.1.0), le_test later.1.1.1)),
                         ),
                       )
                 ]

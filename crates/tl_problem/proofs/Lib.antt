@@ -20,3 +20,4 @@ pub mod SpanningLemmas
 pub mod TightLaws
 pub mod WorkLemmas
 pub mod ZoneLaws
+pub mod ZoneSizes

@@ -19,7 +19,7 @@ use Rattle.std.proofs.Math.Nat.{mul-le-mul, mul-le-mul_right, le-mul_of_pos_righ
 use Rattle.tl_base.specs.declared.limits.TheConstants.{MAX_COLUMNS, MAX_PAGE_WIDTH}
 use Rattle.tl_base.specs.declared.steps.Config.{Config}
 use Rattle.tl_base.specs.Steps.{first_width}
-use Rattle.tl_base.proofs.Members.{Contains-first, Contains-none, Contains-filter, Contains-map, map-Contains}
+use Rattle.tl_base.proofs.Members.{Contains-first, Contains-none, Contains-filter, Contains-map, map-Contains, Contains-one}
 use Rattle.tl_base.proofs.Members.{AllPairs-append, filter-Contains, Contains-push}
 use Rattle.tl_problem.specs.declared.axis.Axis.TheVariants.{Columns}
 use Rattle.tl_problem.specs.declared.axis.Turn.{Turn}
@@ -41,10 +41,6 @@ use Rattle.tl_problem.proofs.SpanLaws.{classes-least, greatest-le, greatest-leas
 use Rattle.tl_problem.proofs.SpanLaws.{classes-Contains, classes-some, classes-rising, class-in_page}
 
 -- ---- the steps of one cell
-
-pub Contains-one : {X : Type 0} (x y : X) → Contains (x ∷ []) y → x ≡ y
-Contains-one x y (zero, within, is) = is
-Contains-one x y (suc k, within, is) = absurd (omega (arith, within))
 
 module _ (old new : List ℕ) (least most : ℕ) where
   pub AddsSteps-none : AddsSteps old old [] least most

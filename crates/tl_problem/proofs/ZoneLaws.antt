@@ -10,7 +10,7 @@ use Rattle.tl_problem.specs.Layouts.{WithinPage}
 use Rattle.tl_problem.specs.Sound.{IsSound, IsSoundCell}
 use Rattle.tl_problem.specs.Spans.{span, spans_of, classes_of, page_room}
 use Rattle.tl_problem.specs.Zones.{span_at, classes_at, first_in_class, last_in_class, range, range_at, IsZone, whole_zone}
-use Rattle.tl_problem.specs.Zones.{lower_part, upper_part}
+use Rattle.tl_problem.specs.Zones.{lower_part, upper_part, IsVector, HasVector}
 use Rattle.tl_problem.specs.Zones.{span_width, InZone}
 use Rattle.tl_problem.proofs.SpanLaws.{has_span-parts, spans-cell, least_width-within, classes-rising, classes-first}
 use Rattle.tl_problem.proofs.SpanLaws.{classes-some, class-in_page, room-in_page}
@@ -73,6 +73,14 @@ whole-all problem sound widths page = record {
       );
 }
 
+-- it has every class vector
+pub whole-vector : (problem : ProblemModel) (vector : List ℕ) → IsVector problem vector → HasVector (whole_zone problem) vector
+whole-vector problem vector is s within =
+    let inside : s < length (spans_of problem) = omega (arith, within, (whole-is_zone problem).spans) in
+    let class = is.classes s (omega (arith, inside, is.spans)) in
+    let whole = whole-range problem s inside in
+    (omega (arith, ap (λ r. r.first) whole), omega (arith, ap (λ r. r.last) whole, class))
+
 -- ---- a cut
 
 -- two numbers are the same or not
@@ -86,10 +94,10 @@ cases_eq t s = elim (cases_lt t s) [
 module _ (problem : ProblemModel) (sound : IsSound problem) (zone : List Range) (is : IsZone problem zone) (s class : ℕ)
     (there : s < length zone)
     (from : (range_at zone s).first ≤ class) (before : class < (range_at zone s).last) where
-  lower_at : range_at (lower_part zone s class) s ≡ range (range_at zone s).first class
+  pub lower_at : range_at (lower_part zone s class) s ≡ range (range_at zone s).first class
   lower_at = get_or-set_same zone s (range (range_at zone s).first class) (range 0 0) there
 
-  upper_at : range_at (upper_part zone s class) s ≡ range (class + 1) (range_at zone s).last
+  pub upper_at : range_at (upper_part zone s class) s ≡ range (class + 1) (range_at zone s).last
   upper_at = get_or-set_same zone s (range (class + 1) (range_at zone s).last) (range 0 0) there
 
   -- the class after the cut begins just past the end of the class before it

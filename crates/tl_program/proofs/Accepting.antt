@@ -1,11 +1,12 @@
 -- A check accepts what another run has laid out.
-use Rattle.std.proofs.Common.{◌≡◌, ◌≢◌, ◌⊎◌, inl, inr, ℕ, ◌≤◌, Bool, true, false, List, ◌++◌, ◌*◌, Option, Some, None}
+use Rattle.std.proofs.Common.{◌≡◌, ◌≢◌, ◌⊎◌, inl, inr, ℕ, ◌≤◌, Bool, true, List, ◌++◌, ◌*◌, Option, Some, None}
 use Rattle.std.proofs.Common.{refl, sym, ap, subst, ◌∙◌}
 use Rattle.std.specs.Prelude.{is_some, option_to_list, bytes_eq}
 use Rattle.std.proofs.lemmas.Map.{update_same, update_other}
 use Rattle.std.proofs.lemmas.Slice.Eq.{bytes_eq-Decides}
 use Rattle.tl_base.specs.declared.limits.TheConstants.{MAX_REACH}
-use Rattle.tl_base.specs.Desk.{Files, put, stored}
+use Rattle.tl_base.specs.Desk.{Files, stored}
+use Rattle.tl_base.proofs.Options.{Some-same}
 use Rattle.tl_cert.specs.declared.certificate.Certificate.{Certificate}
 use Rattle.tl_cert.specs.declared.certificate.Claim.{Claim}
 use Rattle.tl_cert.specs.Faults.{IsTextOf}
@@ -33,6 +34,7 @@ use Rattle.tl_program.proofs.Asking.{names_asked, input_is_no_page, input_is_no_
 use Rattle.tl_program.proofs.Checked.{accepted_so}
 use Rattle.tl_program.proofs.LaidRuns.{LaidRun, laid_run}
 use Rattle.tl_program.proofs.Storing.{after_join}
+use Rattle.tl_program.proofs.Ends.{other_bytes}
 
 -- ---- what a run that laid a table out has stored
 
@@ -78,10 +80,8 @@ stored_last None held name bytes is = absurd (none is) where
   none : None ≡ Some held → ⊥
   none e = absurd cc
 stored_last (Some files) held name bytes is =
-    subst (λ (f : Files). f name ≡ Some bytes) (some_same is)
-    (update_same bytes_eq files name (Some bytes) name ((bytes_eq-Decides name name).1 refl)) where
-      some_same : Some (put name bytes files) ≡ Some held → put name bytes files ≡ held
-      some_same e = cc
+    subst (λ (f : Files). f name ≡ Some bytes) (Some-same is)
+    (update_same bytes_eq files name (Some bytes) name ((bytes_eq-Decides name name).1 refl))
 
 -- a file under another name stays
 stored_other : (files : Option Files) (held : Files) (name bytes other : List ℕ) → other ≢ name →
@@ -93,15 +93,9 @@ stored_other None held name bytes other apart is = absurd (none is) where
 stored_other (Some files) held name bytes other apart is = (
   files,
   refl,
-  subst (λ (f : Files). f other ≡ files other) (some_same is)
-      (update_other bytes_eq files name (Some bytes) other (differ (bytes_eq name other) refl)),
-) where
-  some_same : Some (put name bytes files) ≡ Some held → put name bytes files ≡ held
-  some_same e = cc
-
-  differ : (test : Bool) → bytes_eq name other ≡ test → bytes_eq name other ≡ false
-  differ true is = absurd (apart (sym ((bytes_eq-Decides name other).0 is)))
-  differ false is = is
+  subst (λ (f : Files). f other ≡ files other) (Some-same is)
+      (update_other bytes_eq files name (Some bytes) other (other_bytes name other apart)),
+)
 
 -- the files that a layout stores: its certificate last, its page before, where there is one
 module _ (files : Option Files) (held : Files) (page certificate input : List ℕ) (drawn_page : Option (List ℕ)) (text : List ℕ)

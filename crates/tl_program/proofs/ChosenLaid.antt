@@ -4,10 +4,12 @@ use Rattle.std.proofs.Common.{◌≡◌, ◌∙◌, inl, inr, ℕ, ◌+◌, ◌-
 use Rattle.std.specs.Prelude.{IsSome, MatchOption}
 use Rattle.std.proofs.lemmas.Bool.{cases_lt}
 use Rattle.std.specs.List.{All}
+use Rattle.tl_nested.proofs.Written.{spaced_within}
 use Rattle.tl_base.specs.declared.limits.TheConstants.{MAX_BUDGET, MAX_PAGE_WIDTH}
 use Rattle.tl_base.specs.declared.style.Style.{Style}
 use Rattle.tl_base.specs.Style.{gap_of, edge_of}
 use Rattle.tl_base.proofs.SizeLaws.{sum-total}
+use Rattle.tl_base.proofs.Sums.{sum-within}
 use Rattle.tl_problem.specs.declared.placed.Placed.{Placed}
 use Rattle.tl_problem.specs.Problem.{ProblemModel, total_height, total_width}
 use Rattle.tl_problem.specs.Layouts.{WithinPage}
@@ -38,15 +40,10 @@ use Rattle.tl_tidy.specs.Classes.{HoldsLow}
 use Rattle.tl_tidy.proofs.WalkLaws.{placement-holds}
 use Rattle.tl_program.specs.Tidied.{IsOwnProblem, laid_with, with_last}
 use Rattle.tl_narrow.proofs.Certifying.{own_least}
-use Rattle.tl_program.proofs.LastWidths.{each_few, ends_kept, spaced_within, whole_changed, writable_with}
+use Rattle.tl_narrow.proofs.Beginning.{low_is_wide}
+use Rattle.tl_program.proofs.LastWidths.{ends_kept, whole_changed, writable_with}
 
--- a claim of few lines is not that the page is too narrow
-pub low_is_wide : (height : ℕ) (claim : Claim) → ClaimsLow height claim → IsNarrow claim → ⊥
-low_is_wide height (claims.Lowest lowest) low narrow = narrow
-low_is_wide height (claims.Bounded found lower) low narrow = narrow
-low_is_wide height (claims.Narrow least) low narrow = low
-
--- and the section with its numbers is as low
+-- the section with the numbers of a claim of few lines is as low
 numbers_low : (height : ℕ) (claim : Claim) (section : Section) → ClaimsLow height claim → HasNumbers claim section →
     section.height ≤ height
 numbers_low height (claims.Lowest lowest) section low has = omega (arith, low, has.0)
@@ -297,7 +294,7 @@ module _ (table : Table) (style : Style) (height width budget : ℕ) (sound : Is
             writable = writable_with c low.writable (omega (arith, page, some)) (omega (arith, page, narrow))
                 (let claim = low.valid.2.claim.cuts in omega (arith, claim, cuts)) wide placed.widths
                 (omega (arith, tight.placement.page.columns, (own no_section).sound.few_columns))
-                (spaced_within placed.widths (each_few MAX_PAGE_WIDTH placed.widths (omega (
+                (spaced_within placed.widths (sum-within MAX_PAGE_WIDTH placed.widths (omega (
                   arith,
                   sum-total (gap_of problem.style) (edge_of problem.style) placed.widths,
                   tight.placement.page.page,

@@ -1,9 +1,12 @@
 -- How a run ends, from what was stored and printed; and that it is complete.
-use Rattle.std.proofs.Common.{◌≡◌, ◌⊎◌, inl, inr, ℕ, ◌+◌, ◌*◌, List, []}
+use Rattle.std.proofs.Common.{◌≡◌, ◌≢◌, ◌⊎◌, inl, inr, ℕ, ◌+◌, ◌*◌, List, []}
 use Rattle.std.proofs.Common.{Option, Some, refl, sym, ◌∙◌, ap, subst, arith}
-use Rattle.std.specs.Prelude.{Bool, true, false, ◌==◌, if◌then◌else◌}
+use Rattle.std.specs.Prelude.{Bool, true, false, ◌==◌, if◌then◌else◌, bytes_eq}
 use Rattle.std.proofs.lemmas.Bool.Decides.{eqb_tells}
+use Rattle.std.proofs.lemmas.Bool.{false_from_ne_true}
+use Rattle.std.proofs.lemmas.Slice.Eq.{bytes_eq-Decides}
 use Rattle.tl_base.specs.Desk.{Files, Rose, SaysPrefix, longer}
+use Rattle.tl_base.proofs.Options.{Some-same}
 use Rattle.tl_command.specs.declared.command.Command.TheVariants.{Lay}
 use Rattle.tl_command.specs.declared.command.Command.{Command}
 use Rattle.tl_command.specs.Ask.{Asked}
@@ -141,14 +144,17 @@ module _ (words : List (List ℕ)) (change : Change) where
 
 -- ---- completeness
 
+-- two names that differ are told apart
+pub other_bytes : (name other : List ℕ) → other ≢ name → bytes_eq name other ≡ false
+other_bytes name other apart = false_from_ne_true (bytes_eq name other)
+    (λ same. apart (sym ((bytes_eq-Decides name other).0 same)))
+
 -- a name has one content
 pub same_bytes : (files : Option Files) (held : Files) (name one bytes : List ℕ) → files ≡ Some held → held name ≡ Some bytes →
     Holds files name one → one ≡ bytes
 same_bytes files held name one bytes are has holds =
     let is_held : held name ≡ Some one = subst (λ (f : Option Files). Holds f name one) are holds in
-    some_same one bytes (sym is_held ∙ has) where
-      some_same : (a b : List ℕ) → Some a ≡ Some b → a ≡ b
-      some_same a b e = cc
+    Some-same (sym is_held ∙ has)
 
 -- what a run which did not fail delivered
 pub went : (words : List (List ℕ)) (change : Change) (status : ℕ) (command : Command) (asked : Asked) → Ends words change status →

@@ -9,6 +9,7 @@ use Rattle.std.proofs.lemmas.Bool.{cases_lt}
 use Rattle.std.proofs.lemmas.List.{take_all}
 use Rattle.tl_base.specs.Returned.{IsMemoryOr}
 use Rattle.tl_base.specs.declared.limits.TheConstants.{MAX_PAGE_WIDTH, MAX_BUDGET}
+use Rattle.tl_base.proofs.Options.{Some-same}
 use Rattle.tl_cert.specs.declared.certificate.Certificate.{Certificate}
 use Rattle.tl_cert.specs.declared.certificate.Claim.{Claim}
 use Rattle.tl_cert.specs.declared.certificate.Claim.TheVariants as claims
@@ -52,9 +53,7 @@ last_all : (P : Section → Type 0) (sections : List Section) → AllByRecursion
 last_all P [] all section is = absurd (none is) where
   none : None ≡ Some section → ⊥
   none e = absurd cc
-last_all P (x ∷ []) all section is = subst P (some_same x section is) all.0 where
-  some_same : (a b : Section) → Some a ≡ Some b → a ≡ b
-  some_same a b e = cc
+last_all P (x ∷ []) all section is = subst P (Some-same is) all.0
 last_all P (x ∷ (y ∷ xs)) all section is = last_all P (y ∷ xs) all.1 section is
 
 -- the item at the last place is the last

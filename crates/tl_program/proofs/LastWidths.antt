@@ -1,12 +1,11 @@
 -- A certificate whose own table is laid out by another tight placement, as high as before, is valid as before, and can be written.
 use Rattle.std.proofs.Common.{◌≡◌, ◌∙◌, inl, inr, ℕ, zero, suc, ◌+◌, ◌-◌, ◌<◌, ◌≤◌, Bool, true, false, List, [], ◌∷◌, ◌++◌, length, get_or, take}
-use Rattle.std.proofs.Common.{Option, Some, None, sum, refl, sym, ap, subst, codes, arith}
+use Rattle.std.proofs.Common.{Option, Some, None, refl, sym, ap, subst, codes, arith}
 use Rattle.std.specs.Prelude.{IsSomeAnd, ◌==◌, if◌then◌else◌}
 use Rattle.std.specs.List.{AllByRecursion, flat_map, last_or}
 use Rattle.std.proofs.lemmas.Bool.{cases_lt}
 use Rattle.std.proofs.lemmas.List.Concat.{flat_map-cons}
 use Rattle.tl_base.specs.declared.limits.TheConstants.{MAX_BUDGET, MAX_COLUMNS, MAX_PAGE_WIDTH}
-use Rattle.tl_base.proofs.Sums.{sum-cons}
 use Rattle.tl_problem.specs.declared.placed.Placed.{Placed}
 use Rattle.tl_problem.specs.Problem.{ProblemModel}
 use Rattle.tl_problem.specs.Tight.{IsTight}
@@ -176,21 +175,6 @@ module _ (document : Document) (sound : IsSound document.table) (budget : ℕ) (
   }
 
 -- ---- the text
-
--- each of some widths is within the page where all together are
-pub each_few : (most : ℕ) (widths : List ℕ) → sum widths ≤ most → AllByRecursion (λ w. w ≤ most) widths
-each_few most [] all = tt
-each_few most (w ∷ widths) all =
-    let whole = sum-cons w widths in
-    (omega (arith, whole, all), each_few most widths (omega (arith, whole, all)))
-
--- widths within those of pages can be written
-pub spaced_within : (widths : List ℕ) → AllByRecursion (λ w. w ≤ MAX_PAGE_WIDTH) widths →
-    AllWithin (flat_map (spaced MAX_PAGE_WIDTH) widths)
-spaced_within [] all = tt
-spaced_within (w ∷ widths) all = subst AllWithin (sym (flat_map-cons (spaced MAX_PAGE_WIDTH) w widths))
-    (within-append (spaced MAX_PAGE_WIDTH w) (flat_map (spaced MAX_PAGE_WIDTH) widths) (tt, ((omega arith, all.0), tt))
-    (spaced_within widths all.1))
 
 each_within : (sections : List Section) → AllWithin (flat_map section_pieces sections) →
     AllByRecursion (λ section. AllWithin (section_pieces section)) sections

@@ -36,7 +36,7 @@ use Rattle.tl_program.specs.Lowest.{StoresPage, StoresLowest, StoresBounded, Fit
 use Rattle.tl_program.specs.Messages.{status_number, status_of}
 use Rattle.tl_program.specs.Tasks.{given_or, style_of, breaking_of, source_by, source_of, task_of}
 use Rattle.tl_program.proofs.Asking.{page_is_no_certificate}
-use Rattle.tl_program.proofs.Ends.{same_bytes}
+use Rattle.tl_program.proofs.Ends.{same_bytes, other_bytes}
 use Rattle.tl_program.proofs.LaidRuns.{LaidRun, laid_run}
 
 -- ---- the file of the page
@@ -52,10 +52,7 @@ pub holds_still : (files : Option Files) (name bytes other content : List ℕ) �
     Holds (stored files name bytes) other content
 holds_still None name bytes other content apart holds = tt
 holds_still (Some files) name bytes other content apart holds =
-    update_other bytes_eq files name (Some bytes) other (differ (bytes_eq name other) refl) ∙ holds where
-      differ : (test : Bool) → bytes_eq name other ≡ test → bytes_eq name other ≡ false
-      differ true is = absurd (apart (sym ((bytes_eq-Decides name other).0 is)))
-      differ false is = is
+    update_other bytes_eq files name (Some bytes) other (other_bytes name other apart) ∙ holds
 
 -- the page is there after what is stored with it
 page_there : (files : Option Files) (asked : Asked) (answer : Answer) (page : List ℕ) → AreNames asked.names →

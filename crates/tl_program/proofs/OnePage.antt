@@ -8,7 +8,7 @@ use Rattle.std.proofs.lemmas.List.{length-append}
 use Rattle.std.proofs.lemmas.List.Concat.{flat_map-cons}
 use Rattle.std.proofs.lemmas.List.Sums.{sum_by-append, sum_by-cons}
 use Rattle.tl_base.specs.declared.style.Style.{Style}
-use Rattle.tl_base.proofs.Members.{AllByRecursion-suffix}
+use Rattle.tl_base.proofs.Members.{AllByRecursion-suffix, AllByRecursion-prefix}
 use Rattle.tl_text.specs.declared.paragraph.Atom.{Atom}
 use Rattle.tl_text.specs.Paragraph.{gap_before, lined_pieces, unit_width}
 use Rattle.tl_text.specs.Cuttings.{FillsLines, HoldsIn, IsGreedyCutting, IsPieceCut, joined, line_width}
@@ -106,10 +106,6 @@ never_shorter w (first ∷ line) ((unit ∷ units) ∷ lines) rest next more som
     unit_same : unit ≡ next
     unit_same = ap (λ (all : List Atom). get_or all zero unit) rests
 
-first_part : {X : Type 0} (P : X → Type 0) (xs ys : List X) → AllByRecursion P (xs ++ ys) → AllByRecursion P xs
-first_part P [] ys all = tt
-first_part P (x ∷ xs) ys all = (all.0, first_part P xs ys all.1)
-
 -- the lines of a piece are determined
 one_piece : (w : ℕ) (ones others : List (List Atom)) → AllByRecursion (λ one. one ≢ []) ones →
     AllByRecursion (λ one. one ≢ []) others → joined ones ≡ joined others → AllByRecursion (Holds w) ones →
@@ -162,7 +158,7 @@ pieces_same w (piece ∷ pieces) (one ∷ ones) (other ∷ others) is are holds 
     by_piece : (piece : List Atom) → IsPieceCut piece one → IsPieceCut piece other → one ≡ other
     by_piece [] cut also = cut ∙ sym also
     by_piece (unit ∷ units) cut also = one_piece w one other cut.0 also.0 (cut.1 ∙ sym also.1)
-        (first_part (Holds w) one (joined ones) both) (first_part (Holds w) other (joined others) all)
+        (AllByRecursion-prefix (Holds w) one (joined ones) both) (AllByRecursion-prefix (Holds w) other (joined others) all)
         fills.0 filled.0
 
 -- a paragraph has one greedy cutting in a width

@@ -1,12 +1,10 @@
 -- Where the choice on the narrowest page is left open, the budget of each search is below the counts of that page, and of each
 -- wider one: else all sections would be closed, the table's problem the true one, and its count within the budget.
-use Rattle.std.proofs.Common.{◌≡◌, ◌⊎◌, inl, inr, ℕ, ◌+◌, ◌<◌, ◌≤◌, get_or, length, take, refl, ap, subst, arith}
+use Rattle.std.proofs.Common.{◌≡◌, ◌⊎◌, inl, inr, ℕ, ◌+◌, ◌<◌, ◌≤◌, get_or, length, take, refl, subst, arith}
 use Rattle.std.proofs.lemmas.Bool.{cases_lt}
-use Rattle.std.proofs.lemmas.List.Elements.{All-contains, All-from_recursion}
 use Rattle.std.specs.List.{All}
 use Rattle.tl_base.specs.declared.limits.TheConstants.{MAX_PAGE_WIDTH, MAX_REACH}
 use Rattle.tl_base.specs.declared.style.Style.{Style}
-use Rattle.tl_base.specs.Steps.{height_at}
 use Rattle.tl_problem.specs.Agreement.{LowIsHigh}
 use Rattle.tl_problem.specs.Problem.{ProblemModel}
 use Rattle.tl_problem.specs.Spans.{count_of}
@@ -21,11 +19,11 @@ use Rattle.tl_form.specs.CountLaws.{AllCountsRise, CountsExist, CountsRise}
 use Rattle.tl_form.specs.Expected.{Document}
 use Rattle.tl_form.specs.Problems.{IsCountAll, IsTrueProblem}
 use Rattle.tl_form.specs.Valid.{AreGoodBelow}
-use Rattle.tl_form.proofs.ClosedLaws.{bounds_meet}
+use Rattle.tl_form.proofs.ClosedLaws.{bounds_meet, low_is_high}
 use Rattle.tl_form.proofs.Coverage.{Stands, stands}
 use Rattle.tl_form.proofs.DueProblems.{IsOnPage, good_follows, leasts, on_page, some_number}
 use Rattle.tl_form.proofs.NamedSteps.{by_low, by_high}
-use Rattle.tl_form.proofs.ProblemTruth.{is-true, true-low-is-high}
+use Rattle.tl_form.proofs.ProblemTruth.{is-true}
 use Rattle.tl_form.proofs.Truth.{Fits-wider, IsTrue, all_true, high_is_above, low_is_below}
 use Rattle.tl_form.proofs.ValidLaws.{no_section}
 use Rattle.tl_narrow.specs.Slimmest.{IsBelowCounts}
@@ -34,13 +32,6 @@ use Rattle.tl_program.specs.declared.task.Task.{Task}
 use Rattle.tl_program.specs.Answers.{budget_in}
 use Rattle.tl_program.specs.Tidied.{IsLeftOpen, IsOwnProblem}
 use Rattle.tl_program.proofs.ChosenLaid as laid
-
--- in a true problem each cell needs the same by both bounds
-true_agrees : (table : Table) (style : Style) (page : ℕ) (problem : ProblemModel) → IsTrueProblem table style page problem →
-    LowIsHigh problem
-true_agrees table style page problem is cell has w within =
-    ap (λ steps. height_at steps w) (All-contains (λ each. each.low ≡ each.high) problem.cells cell
-    (All-from_recursion (λ each. each.low ≡ each.high) problem.cells (true-low-is-high table style page problem is)) has)
 
 module _ (table : Table) (style : Style) (height width budget : ℕ) (sound : IsSound table) (c : Certificate)
     (low : IsLowCertificate table style height width budget c) (narrow : width ≤ MAX_PAGE_WIDTH) where
@@ -104,7 +95,7 @@ module _ (table : Table) (style : Style) (height width budget : ℕ) (sound : Is
           (omega (arith, cuts)) (omega (arith, last)) good_before)
 
       by_left : (LowIsHigh problem → ⊥) ⊎ (budget < count_of problem) → ⊥
-      by_left (inl differ) = differ (true_agrees table style width problem real)
+      by_left (inl differ) = differ (low_is_high table style width problem real)
       by_left (inr less) =
           let many = counted.never_more table (inl refl) in
           let few = rise table style width width (count_of problem) many.0 (omega arith) (problem, real, refl) many.1 in

@@ -6,6 +6,7 @@ use Rattle.std.specs.declared.alloc.AllocError.{AllocError}
 use Rattle.std.proofs.lemmas.List.{get_or-take, length-take, take-take}
 use Rattle.tl_base.specs.declared.breaking.Breaking.TheVariants.{Words}
 use Rattle.tl_base.specs.declared.style.Style.TheVariants.{Plain}
+use Rattle.tl_base.proofs.Options.{Some-same}
 use Rattle.tl_cert.specs.declared.certificate.Certificate.{Certificate}
 use Rattle.tl_cert.specs.declared.section.Section.{Section}
 use Rattle.tl_demo.specs.Demo.{demo_text_of}
@@ -71,9 +72,7 @@ some_there P None is = absurd is
 -- the table of a reading is sound where that is
 pub sound_table : (reading : Reading) (table : Table) → table_in reading ≡ Some table → IsSoundReading reading →
     IsSound table × HasFewCells table
-sound_table (readings.Table one) table is sound = subst (λ (t : Table). IsSound t × HasFewCells t) (some_same is) sound where
-  some_same : Some one ≡ Some table → one ≡ table
-  some_same e = cc
+sound_table (readings.Table one) table is sound = subst (λ (t : Table). IsSound t × HasFewCells t) (Some-same is) sound
 sound_table (readings.Refused refusal) table is sound = absurd (none is) where
   none : None ≡ Some table → ⊥
   none e = absurd cc

@@ -6,6 +6,7 @@ use Rattle.std.specs.List.{AllByRecursion}
 use Rattle.tl_base.specs.declared.breaking.Breaking.{Breaking}
 use Rattle.tl_base.specs.Returned.{IsMemoryOr}
 use Rattle.tl_base.specs.declared.limits.TheConstants.{MAX_FILE_BYTES}
+use Rattle.tl_base.proofs.Options.{Some-same}
 use Rattle.tl_token.specs.declared.token.Token.{Token}
 use Rattle.tl_token.specs.declared.token.TokenError.{TokenError}
 use Rattle.tl_token.specs.declared.token.TokenError.TheVariants as cuts
@@ -43,9 +44,7 @@ use Rattle.tl_table.proofs.SameShapes.{same_shapes}
 
 -- a refusal that is found is the one
 pub one_refusal : (cause : Option Refusal) (found other : Refusal) → cause ≡ Some found → cause ≡ Some other → found ≡ other
-one_refusal cause found other first second = some_same (sym first ∙ second) where
-  some_same : Some found ≡ Some other → found ≡ other
-  some_same same = cc
+one_refusal cause found other first second = Some-same (sym first ∙ second)
 
 -- out of memory is no refusal
 some_not_none : (found : Refusal) → None ≡ Some found → ⊥

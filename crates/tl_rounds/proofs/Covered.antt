@@ -5,7 +5,6 @@ use Rattle.std.proofs.Common.{length-append}
 use Rattle.std.proofs.lemmas.List.{length-map}
 use Rattle.std.specs.List.{All, AllPairs, Contains}
 use Rattle.std.proofs.lemmas.Bool.{cases_lt, eq-eqb, ne_eqb}
-use Rattle.std.proofs.lemmas.Bool.Decides.{nat_tests}
 use Rattle.std.proofs.lemmas.List.Elements.{All-append, All-contains, All-map, Contains-append_left, Contains-append_right}
 use Rattle.tl_base.specs.declared.limits.TheConstants.{MAX_BUDGET}
 use Rattle.tl_base.proofs.Members.{All-from_Contains, AllPairs-append, AllPairs-filter, AllPairs-map, Contains-filter, Contains-map}
@@ -26,6 +25,7 @@ use Rattle.tl_cert.specs.Worked.{IsClosedZone}
 use Rattle.tl_cert.proofs.AppendedLaws.{appended-law, named-apart, named-first}
 use Rattle.tl_cert.proofs.CutParts.{first-whole}
 use Rattle.tl_cert.proofs.TraceLaws.{cuts-there}
+use Rattle.tl_cert.proofs.ZoneBounds.{lt_test, not_lt_test}
 use Rattle.tl_solve.specs.Arenas.{HasBoundBelow}
 use Rattle.tl_solve.specs.declared.piece.Piece.{Piece}
 use Rattle.tl_solve.specs.Piece.{IsPieceOf, final_height}
@@ -58,14 +58,9 @@ pub lower-height : (best : Placed) (given : ℕ) (found : Option Placed) → bes
     ((lower_of best found).height ≤ best.height) × ((lower_of best found).height ≤ final_height given found)
 lower-height best given None from = (omega arith, from)
 lower-height best given (Some placed) from = elim (cases_lt placed.height best.height) [
-  | inl less ↦ rw (nat-lt-true placed.height best.height less) (omega (arith, less), omega arith)
-  | inr more ↦ rw (nat-lt-false placed.height best.height more) (omega arith, omega (arith, more))
-] where
-  nat-lt-true : (a b : ℕ) → a < b → nat_lt a b ≡ true
-  nat-lt-true a b less = grind (arith, nat_tests)
-
-  nat-lt-false : (a b : ℕ) → b ≤ a → nat_lt a b ≡ false
-  nat-lt-false a b more = grind (arith, nat_tests)
+  | inl less ↦ rw (lt_test placed.height best.height less) (omega (arith, less), omega arith)
+  | inr more ↦ rw (not_lt_test placed.height best.height more) (omega arith, omega (arith, more))
+]
 
 pub lower-tight : (problem : ProblemModel) (best : Placed) (given : ℕ) (found : Option Placed) → IsTight problem best →
     IfSome found (λ placed. IsTight problem placed × (placed.height < given)) → IsTight problem (lower_of best found)

@@ -1,13 +1,13 @@
 -- A zone that is cut follows from its parts: what is left of it lies in the lower part, or in the upper one once the bound
 -- that the cut made is broken.
 use Rattle.std.proofs.Common.{◌≡◌, ◌≢◌, ℕ, ◌+◌, ◌-◌, ◌<◌, ◌≤◌, Bool, true, false, nat_lt, if◌then◌else◌, List, [], ◌∷◌, inl, inr}
-use Rattle.std.proofs.Common.{length, refl, sym}
+use Rattle.std.proofs.Common.{length, sym}
 use Rattle.std.proofs.Common.{ap, subst, arith}
 use Rattle.std.specs.List.{All, Contains, range_with_len}
-use Rattle.std.proofs.lemmas.List.{get_or-set_same, get_or-set_other, length-set, get_or_default}
+use Rattle.std.proofs.lemmas.List.{get_or-set_other, length-set, get_or_default}
 use Rattle.std.proofs.lemmas.List.Elements.{All-nil, All-contains, Contains-append_left, Contains-append_cases}
-use Rattle.tl_base.proofs.Members.{Contains-first, Contains-cases, Contains-none, Contains-flat_map, flat_map-Contains}
-use Rattle.tl_base.proofs.Members.{Contains-range, range-Contains}
+use Rattle.tl_base.proofs.Members.{Contains-none, Contains-flat_map, flat_map-Contains}
+use Rattle.tl_base.proofs.Members.{Contains-range, range-Contains, none-Contains}
 use Rattle.tl_problem.specs.declared.zone.Range.{Range}
 use Rattle.tl_problem.specs.Problem.{ProblemModel}
 use Rattle.tl_problem.specs.Sound.{IsSound}
@@ -17,22 +17,14 @@ use Rattle.tl_problem.specs.Zones.{lower_part, upper_part}
 use Rattle.tl_problem.specs.Zones.{span_width, InZone}
 use Rattle.tl_problem.specs.Bounds.{HasNoWidths}
 use Rattle.tl_problem.proofs.SpanLaws.{classes-rising}
-use Rattle.tl_problem.proofs.ZoneLaws.{cases_eq, cut-cases, upper-inside, lower-is_zone, upper-is_zone, whole-range}
-use Rattle.tl_problem.proofs.ZoneLaws.{whole-is_zone}
+use Rattle.tl_problem.proofs.ZoneLaws.{cases_eq, cut-cases, upper-inside, lower-is_zone, upper-is_zone, whole-range, lower_at}
+use Rattle.tl_problem.proofs.ZoneLaws.{whole-is_zone, upper_at}
 use Rattle.tl_cert.specs.declared.log.Bound.{Bound}
 use Rattle.tl_cert.specs.Nogoods.{Meets, Breaks, at_most, at_least, range_bounds, zone_bounds}
 use Rattle.tl_cert.specs.Implied.{IsLeft, Implied, OneLeft}
-use Rattle.tl_cert.proofs.ZoneBounds.{zone-meets, zone-from_meets, lt_test, not_lt_test}
+use Rattle.tl_cert.proofs.ZoneBounds.{zone-meets, zone-from_meets, lt_test, not_lt_test, given-Contains, Contains-given}
 
--- what a test gives
-given-has : (b : Bool) (x : Bound) → b ≡ true → Contains (if b then x ∷ [] else []) x
-given-has true x is = Contains-first x []
-given-has false x is = cc
-
-given-only : (b : Bool) (x y : Bound) → Contains (if b then x ∷ [] else []) y → x ≡ y
-given-only true x y has = elim (Contains-cases x [] y has) [ inl here ↦ here | inr later ↦ absurd (Contains-none y later) ]
-given-only false x y has = absurd (Contains-none y has)
-
+-- what a test gives not
 given-none : (b : Bool) (x y : Bound) → b ≡ false → Contains (if b then x ∷ [] else []) y → ⊥
 given-none true x y is has = cc
 given-none false x y is has = Contains-none y has
@@ -61,12 +53,6 @@ inside-left problem sound zone is widths inside = record {
 module _ (problem : ProblemModel) (sound : IsSound problem) (zone : List Range) (is : IsZone problem zone) (s class : ℕ)
     (there : s < length zone)
     (from : (range_at zone s).first ≤ class) (before : class < (range_at zone s).last) where
-  lower_at : range_at (lower_part zone s class) s ≡ range (range_at zone s).first class
-  lower_at = get_or-set_same zone s (range (range_at zone s).first class) (range 0 0) there
-
-  upper_at : range_at (upper_part zone s class) s ≡ range (class + 1) (range_at zone s).last
-  upper_at = get_or-set_same zone s (range (class + 1) (range_at zone s).last) (range 0 0) there
-
   more_classes : class + 1 < length (classes_at problem s)
   more_classes = let ends = (is.ranges s there).1 in omega (arith, ends, before)
 
@@ -82,13 +68,13 @@ module _ (problem : ProblemModel) (sound : IsSound problem) (zone : List Range) 
       span_width problem widths s ≤ last_in_class problem s class
   low_room widths low =
       let here = low.ranges s (omega (arith, there, length-set zone s (range (range_at zone s).first class))) in
-      omega (arith, here.1, ap (λ r. last_in_class problem s r.last) lower_at)
+      omega (arith, here.1, ap (λ r. last_in_class problem s r.last) (lower_at problem sound zone is s class there from before))
 
   pub high_room : (widths : List ℕ) → InZone problem (upper_part zone s class) widths →
       last_in_class problem s class + 1 ≤ span_width problem widths s
   high_room widths high =
       let here = high.ranges s (omega (arith, there, length-set zone s (range (class + 1) (range_at zone s).last))) in
-      omega (arith, here.0, ap (λ r. first_in_class problem s r.first) upper_at, next_class)
+      omega (arith, here.0, ap (λ r. first_in_class problem s r.first) (upper_at problem sound zone is s class there from before), next_class)
 
   low_zone : IsZone problem (lower_part zone s class)
   low_zone = lower-is_zone problem sound zone is s class there from before
@@ -127,10 +113,10 @@ module _ (problem : ProblemModel) (sound : IsSound problem) (zone : List Range) 
       Contains-flat_map (λ t. range_bounds problem t (range_at part t)) (range_with_len 0 (length part)) s b
       (Contains-range 0 (length part) s (omega arith) (omega
       (arith, there, length-set zone s (range (range_at zone s).first class))))
-      (subst (λ r. Contains (range_bounds problem s r) b) (sym lower_at)
+      (subst (λ r. Contains (range_bounds problem s r) b) (sym (lower_at problem sound zone is s class there from before))
       (Contains-append_left (if nat_lt (class + 1) (length (classes_at problem s)) then b ∷ [] else [])
       (if nat_lt 0 (range_at zone s).first then at_least s (first_in_class problem s (range_at zone s).first) ∷ [] else []) b
-      (given-has (nat_lt (class + 1) (length (classes_at problem s))) b
+      (given-Contains (nat_lt (class + 1) (length (classes_at problem s))) b
       (lt_test (class + 1) (length (classes_at problem s)) more_classes))))
 
   -- and its other bounds are met in the whole zone
@@ -150,15 +136,15 @@ module _ (problem : ProblemModel) (sound : IsSound problem) (zone : List Range) 
         | inl same ↦
             let first = (range_at zone s).first in
             let here : Contains (range_bounds problem s (range first class)) other =
-            subst (λ r. Contains (range_bounds problem s r) other) lower_at
+            subst (λ r. Contains (range_bounds problem s r) other) (lower_at problem sound zone is s class there from before)
             (subst (λ n. Contains (range_bounds problem n (range_at part n)) other) same found.2) in
             elim (Contains-append_cases (if nat_lt (class + 1) (length (classes_at problem s)) then at_most s
             (last_in_class problem s class) ∷ [] else [])
             (if nat_lt 0 first then at_least s (first_in_class problem s first) ∷ [] else []) other here) [
               | inl most ↦ absurd (apart (sym
-                  (given-only (nat_lt (class + 1) (length (classes_at problem s))) (at_most s (last_in_class problem s class))
+                  (Contains-given (nat_lt (class + 1) (length (classes_at problem s))) (at_most s (last_in_class problem s class))
                   other most)))
-              | inr least ↦ subst (Meets problem widths) (given-only (nat_lt 0 first)
+              | inr least ↦ subst (Meets problem widths) (Contains-given (nat_lt 0 first)
                   (at_least s (first_in_class problem s first)) other least)
                   (inside.ranges s there).0
             ]
@@ -187,12 +173,8 @@ module _ (problem : ProblemModel) (sound : IsSound problem) (zone : List Range) 
 
 -- ---- the whole has no bounds
 
-nothing-in : {X : Type 0} (xs : List X) → ((x : X) → Contains xs x → ⊥) → xs ≡ []
-nothing-in [] none = refl
-nothing-in (x ∷ xs) none = absurd (none x (Contains-first x xs))
-
 pub whole-bounds : (problem : ProblemModel) → zone_bounds problem (whole_zone problem) ≡ []
-whole-bounds problem = nothing-in (zone_bounds problem (whole_zone problem)) never where
+whole-bounds problem = none-Contains (zone_bounds problem (whole_zone problem)) never where
   never : (bound : Bound) → Contains (zone_bounds problem (whole_zone problem)) bound → ⊥
   never bound has =
       let whole = whole_zone problem in

@@ -3,6 +3,7 @@ use Rattle.std.proofs.Common.{ℕ, ◌+◌, ◌-◌, ◌*◌, ◌<◌, ◌≤◌
 use Rattle.std.proofs.Common.{sym, subst, arith}
 use Rattle.std.specs.List.{All, AllByRecursion, flat_map}
 use Rattle.std.proofs.lemmas.List.Concat.{flat_map-cons}
+use Rattle.std.proofs.lemmas.List.Elements.{recursion_from_All}
 use Rattle.tl_base.proofs.Members.{AllByRecursion-append}
 use Rattle.tl_cert.specs.declared.limits.TheConstants.{MAX_LINE, MAX_ZONE}
 use Rattle.tl_cert.specs.declared.log.End.{End}
@@ -14,10 +15,6 @@ use Rattle.tl_cert.specs.Text.{space, fire_pieces, end_word, line_pieces, IsLine
 use Rattle.tl_cert.proofs.reading.Words.{within-word}
 use Rattle.tl_solve.specs.inner.Shapes.{parts_fired, line_by_cut, AreLinesOf}
 
-all-by_recursion : {X : Type 0} (P : X → Type 0) (xs : List X) → All P xs → AllByRecursion P xs
-all-by_recursion P [] all = tt
-all-by_recursion P (x ∷ xs) all = (all 0 x (omega arith), all-by_recursion P xs (λ i d within. all (suc i) d (omega arith)))
-
 pub all-flat_map : {X Y : Type 0} (P : Y → Type 0) (f : X → List Y) (xs : List X) → All (λ x. AllByRecursion P (f x)) xs →
     AllByRecursion P (flat_map f xs)
 all-flat_map P f [] all = tt
@@ -25,7 +22,7 @@ all-flat_map P f (x ∷ xs) all = subst (AllByRecursion P) (sym (flat_map-cons f
     (AllByRecursion-append P (f x) (flat_map f xs) (all 0 x (omega arith))
     (all-flat_map P f xs (λ i d within. all (suc i) d (omega arith))))
 
-fire-within : (f : ℕ) → f ≤ MAX_LINE → AllWithin (fire_pieces f)
+pub fire-within : (f : ℕ) → f ≤ MAX_LINE → AllWithin (fire_pieces f)
 fire-within f small =
     AllByRecursion-append IsPieceInRange (word (codes " @")) (number 0 MAX_LINE f ∷ []) (within-word (codes " @"))
     ((omega arith, small), tt)
@@ -70,7 +67,7 @@ line-writable last lower z bounds (Some cut) within small = (
 pub log-writable : (last lower : ℕ) (cuts bounds : List (Option ℕ)) (log : List LogLine) → last ≤ MAX_ZONE →
     AreLinesOf last cuts bounds lower (last + 1) log → IsLogWritable log
 log-writable last lower cuts bounds log small lines = (
-  all-by_recursion IsLineShaped log (λ k d within. (each k d within).0),
+  recursion_from_All IsLineShaped log (λ k d within. (each k d within).0),
   all-flat_map IsPieceInRange line_pieces log (λ k d within. (each k d within).1),
 ) where
   each : (k : ℕ) (d : LogLine) → k < length log → IsLineShaped (get_or log k d) × AllWithin (line_pieces (get_or log k d))

@@ -1,11 +1,12 @@
 -- The order of bounds: of two that differ one comes first, and none before itself.
-use Rattle.std.proofs.Common.{◌≡◌, ◌≢◌, ◌⊎◌, ℕ, ◌+◌, ◌*◌, List, inl, inr, refl, ap, ◌∙◌, sym, subst, arith}
+use Rattle.std.proofs.Common.{◌≡◌, ◌≢◌, ◌⊎◌, ◌+◌, ◌*◌, List, inl, inr, refl, ap, ◌∙◌, sym, subst, arith}
 use Rattle.std.specs.List.{AllPairs}
 use Rattle.std.proofs.lemmas.Bool.{cases_lt}
 use Rattle.tl_base.proofs.Members.{same-ordered}
 use Rattle.tl_cert.specs.declared.log.Bound.{Bound}
 use Rattle.tl_cert.specs.declared.log.Side.{Side}
 use Rattle.tl_cert.specs.declared.log.Side.TheVariants.{Most, Least}
+use Rattle.tl_cert.proofs.FireLaws.{same-bound}
 use Rattle.tl_store.specs.Stores.{side_place, bound_place, BoundComesFirst, HaveSame}
 
 pub first-next : (a b c : Bound) → BoundComesFirst a b → BoundComesFirst b c → BoundComesFirst a c
@@ -42,21 +43,14 @@ first-cases a b =
             ]
       ]
     ] where
-      bound_of : ℕ → Side → ℕ → Bound
-      bound_of span side width = record { span = span; side = side; width = width }
-
-      same-bound : a.span ≡ b.span → a.side ≡ b.side → a.width ≡ b.width → a ≡ b
-      same-bound span side width = ap (λ s. bound_of s a.side a.width) span ∙ ap (λ s. bound_of b.span s a.width) side ∙ ap
-          (bound_of b.span b.side) width
-
       made : (s t : Side) → 2 * a.span + side_place a.side ≡ 2 * b.span + side_place b.side → s ≡ a.side → t ≡ b.side →
           a.width ≡ b.width → a ≡ b
       made Most Most place one other width =
           let one_place = ap side_place one in let other_place = ap side_place other in
-          same-bound (omega (arith, place, one_place, other_place)) (sym one ∙ other) width
+          same-bound a b (omega (arith, place, one_place, other_place)) (sym one ∙ other) width
       made Least Least place one other width =
           let one_place = ap side_place one in let other_place = ap side_place other in
-          same-bound (omega (arith, place, one_place, other_place)) (sym one ∙ other) width
+          same-bound a b (omega (arith, place, one_place, other_place)) (sym one ∙ other) width
       made Most Least place one other width =
           let one_place = ap side_place one in let other_place = ap side_place other in
           absurd (omega (arith, place, one_place, other_place))

@@ -1,8 +1,8 @@
 -- A line is good by the set of its bounds: in which order they are written, and how often, does not matter.
-use Rattle.std.proofs.Common.{◌≡◌, ℕ, ◌<◌, List, [], ◌∷◌, ◌++◌, inl, inr, length, refl, sym, subst, arith}
+use Rattle.std.proofs.Common.{◌≡◌, ℕ, ◌<◌, List, [], ◌∷◌, ◌++◌, inl, inr, length, sym, subst, arith}
 use Rattle.std.specs.List.{Contains}
 use Rattle.std.proofs.lemmas.List.Elements.{All-contains}
-use Rattle.tl_base.proofs.Members.{All-from_Contains, Contains-first}
+use Rattle.tl_base.proofs.Members.{All-from_Contains, none-Contains}
 use Rattle.tl_problem.specs.declared.zone.Range.{Range}
 use Rattle.tl_problem.specs.Problem.{ProblemModel}
 use Rattle.tl_problem.specs.Sound.{IsSound}
@@ -94,14 +94,10 @@ good-written problem sound trace is log lower k line good = record {
   ends = good.ends;
 }
 
-nothing-in : (xs : List Bound) → ((x : Bound) → Contains xs x → ⊥) → xs ≡ []
-nothing-in [] none = refl
-nothing-in (x ∷ xs) none = absurd (none x (Contains-first x xs))
-
 -- zone 0 has no bounds
 pub zero-bounds : (problem : ProblemModel) (trace : List CutAt) → IsTraceOf problem trace →
     nogood_bounds problem trace (Zone 0) ≡ []
-zero-bounds problem trace is = nothing-in (zone_bounds problem (zone_of problem trace 0))
+zero-bounds problem trace is = none-Contains (zone_bounds problem (zone_of problem trace 0))
     (λ bound has. whole-no_bounds problem bound (subst (λ (zone : List Range). Contains (zone_bounds problem zone) bound)
     (zone-first problem trace is) has))
 

@@ -13,9 +13,8 @@ use Rattle.tl_base.proofs.Members.{AllByRecursion-append}
 use Rattle.tl_grid.specs.declared.error.GridError.{GridError}
 use Rattle.tl_grid.specs.declared.error.GridError.TheVariants as causes
 use Rattle.tl_grid.specs.declared.shape.Grid.{Grid}
-use Rattle.tl_grid.specs.declared.shape.Shape.{Shape}
 use Rattle.tl_grid.specs.Form.{HasGrid, LacksGrid}
-use Rattle.tl_grid.proofs.Results.{each_err}
+use Rattle.tl_grid.proofs.Results.{no_cause, one_cause}
 use Rattle.tl_tree.specs.declared.node.Block.{Block, out-Block}
 use Rattle.tl_tree.specs.declared.node.Block.TheOpen as open_block
 use Rattle.tl_tree.specs.declared.node.CellNode.{CellNode, out-CellNode}
@@ -213,16 +212,6 @@ refused_cells node grid breaking cols caption memory error has captioned refused
     refused
 
 -- ---- each error comes where its cause is so
-
-one_cause : (shape : Shape) (one other : GridError) → LacksGrid shape one → LacksGrid shape other → one ≡ other
-one_cause shape one other is are = by_case (each_err shape (Err one) tt (inr is) other are)
-  where
-    by_case : (one ≡ causes.Memory alloc_error) ⊎ (one ≡ other) → one ≡ other
-    by_case (inl memory) = absurd (subst (LacksGrid shape) memory is)
-    by_case (inr same) = same
-
-no_cause : (shape : Shape) (grid : Grid) (error : GridError) → HasGrid shape grid → LacksGrid shape error → ⊥
-no_cause shape grid error has is = each_err shape (Ok grid) has tt error is
 
 -- the table without a grid is no one of those that have one
 pub not_among : (tables : List NumberedShape) (error : FormError) → Gridded tables → AreRefused tables error → ⊥

@@ -6,7 +6,6 @@ use Rattle.std.specs.List.{AllZip, AllByRecursion, flat_map}
 use Rattle.std.specs.declared.alloc.Global.{Global}
 use Rattle.std.specs.declared.boxed.Box.{Box}
 use Rattle.std.proofs.lemmas.Grind.{flat_map-append}
-use Rattle.std.proofs.lemmas.List.{take_more}
 use Rattle.std.proofs.lemmas.List.Concat.{flat_map-cons}
 use Rattle.std.proofs.lemmas.List.Sums.{sum_by-cons}
 use Rattle.std.proofs.lemmas.List.Elements.{Contains-append_left, Contains-append_right}
@@ -16,6 +15,7 @@ use Rattle.tl_base.specs.Style.{gap_of, edge_of}
 use Rattle.tl_base.proofs.Zips.{AllZip-push}
 use Rattle.tl_base.specs.declared.chain.Chain.{Chain}
 use Rattle.tl_base.specs.declared.chain.Entry.{Entry}
+use Rattle.tl_base.proofs.Taken.{taken_more, AllZip-taken}
 use Rattle.tl_table.specs.declared.cell.Content.{Content, out-Content}
 use Rattle.tl_table.specs.declared.cell.Content.TheOpen as open_content
 use Rattle.tl_table.specs.declared.cell.Table.{Table, out-Table}
@@ -73,9 +73,8 @@ LinksSoFar-more style table demands numbers n entries inner d cell demand linked
       stand = AllZip-push (λ entry one. IsLink (Weighs style) table entry one) entries before.links
           (record { cell = get_or numbers n d; inner = linked.inner }) link before.stand
           (record { cell = cell; named = named; placed = refl; wide = linked_so });
-      like = subst (λ prefix. AllZip (HasDemand demands) prefix (before.links ++ link ∷ [])) (sym (take_more numbers n d within))
-          (AllZip-push (HasDemand demands) (take n numbers) before.links (get_or numbers n d) link before.like
-          (record { demand = demand; named = wanted; left = sym of.left; right = sym of.right; wide = refl }));
+      like = AllZip-taken (HasDemand demands) numbers before.links n d (get_or numbers n d) link within refl before.like
+          (record { demand = demand; named = wanted; left = sym of.left; right = sym of.right; wide = refl });
       follow = ap (λ prefix. prefix ++ linked.chains) before.follow ∙
           ap (λ back. flat_map (λ one. one.inner) before.links ++ back)
           (sym (flat_map-cons (λ (one : Link). one.inner) link [] ∙ append-nil linked.chains)) ∙
@@ -212,9 +211,6 @@ numbers_within demands (number ∷ numbers) (demand ∷ picked) named (suc n) d 
 
 -- ---- a block of the cell gives the reason
 
-contains_cons : {X : Type 0} (x y : X) (xs : List X) → Contains xs y → Contains (x ∷ xs) y
-contains_cons x y xs (k, within, is) = (suc k, omega arith, is)
-
 nested_among : (blocks : List Content) (k : ℕ) (block : Content) (nested : Table) → slice_get blocks k ≡ Some block →
     Contains (tables_of (out-Content block)) nested → Contains (flat_map (λ one. tables_of (out-Content one)) blocks) nested
 nested_among [] k block nested named inside = let no : None ≡ Some block = named in cc
@@ -272,8 +268,7 @@ pub others_more : (style : Style) (w : ℕ) (items : List Content) (n : ℕ) (it
     AllByRecursion (AreOthers style w) (take n items) → AreOthers style w item →
     AllByRecursion (AreOthers style w) (take (n + 1) items)
 others_more style w items n item within is before here =
-    subst (AllByRecursion (AreOthers style w)) (sym (take_more items n item within ∙ ap (λ last. take n items ++ last ∷ [])
-    (sym is)))
+    subst (AllByRecursion (AreOthers style w)) (sym (taken_more items n item item within is))
     (append_others (take n items) before)
   where
     append_others : (prefix : List Content) → AllByRecursion (AreOthers style w) prefix →

@@ -6,6 +6,7 @@ use Rattle.std.proofs.lemmas.Bool.{cases_eq}
 use Rattle.std.proofs.lemmas.List.{take_all, length-set, get_or-set_same, get_or-set_other}
 use Rattle.std.proofs.lemmas.List.Elements.{Contains-append_cases, Contains-append_left, Contains-append_right}
 use Rattle.tl_base.proofs.Members.{Contains-cases, Contains-first, Contains-none, Contains-flat_map}
+use Rattle.tl_base.proofs.Taken.{joined_more}
 use denote.Ref.{Bor}
 use Rattle.tl_table.specs.declared.cell.Table.{Table, out-Table}
 use Rattle.tl_table.specs.Tables.{IsInsideWithin, IsAmong, inner_tables}
@@ -13,13 +14,9 @@ use Rattle.tl_table.specs.Numbered.{AreByNumber, HasNumber, LacksNumber}
 use Rattle.tl_table.specs.Sound.{IsSound, nested_in_table}
 use Rattle.tl_table.specs.inner.Numbers.{ArePut, HasNumberIn, HavePlaces, LackNumber}
 use Rattle.tl_table.proofs.TableNumbers.{number_within, table_of_number}
-use Rattle.tl_table.proofs.Writing.{joined_more}
+use Rattle.tl_table.proofs.FewCells.{among-from}
 
 -- ---- a table has those nested directly in it, and all in them
-
-deeper : (table nested one : Table) → Contains (inner_tables (out-Table table)) nested → IsAmong nested one → IsAmong table one
-deeper table nested one has (inl same) = inr (1, (nested, has, inl same))
-deeper table nested one has (inr inside) = inr (suc inside.0, (nested, has, inr inside.1))
 
 none_of : (table : Table) (number : ℕ) → ((out-Table table).number ≡ number → ⊥) →
     LackNumber (inner_tables (out-Table table)) number →
@@ -45,7 +42,7 @@ own_place first count table have = have table table (Contains-first table []) (i
 pub inner_places : (first count : ℕ) (table : Table) → HavePlaces first count (table ∷ []) →
     HavePlaces first count (inner_tables (out-Table table))
 inner_places first count table have nested one has among =
-    have table one (Contains-first table []) (deeper table nested one has among)
+    have table one (Contains-first table []) (among-from table nested one has among)
 
 -- those of one of some items have theirs
 pub item_places : {X : Type 0} (tables : X → List Table) (items xs : List X) (first count now i : ℕ) (x : X) → items ≡ xs →
@@ -101,7 +98,7 @@ pub put_more : {X : Type 0} (tables : X → List Table) (items : List X) (first 
     ArePut first (flat_map tables (take i items)) before between → ArePut first (tables x) between after →
     ArePut first (flat_map tables (take (i + 1) items)) before after
 put_more tables items first i x before between after within is put then =
-    subst (λ some. ArePut first some before after) (sym (joined_more tables items i x within is))
+    subst (λ some. ArePut first some before after) (sym (joined_more tables items i x x within is))
     (put_both first (flat_map tables (take i items)) (tables x) before between after put then)
 
 -- all items'
@@ -144,7 +141,7 @@ put_own first table before between from upto put = record {
     table.now,
     Contains-first table.now [],
     record {
-      among = deeper table.now nested (get_or between i d).now has found.among;
+      among = among-from table.now nested (get_or between i d).now has found.among;
       numbered = found.numbered;
     },
   ))

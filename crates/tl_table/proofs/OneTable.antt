@@ -10,7 +10,7 @@ use Rattle.std.proofs.lemmas.List.Sorted.{Contains-permutation, IsPermutation-ma
 use Rattle.tl_base.specs.Returned.{IsMemoryOr}
 use Rattle.tl_base.specs.declared.breaking.Breaking.{Breaking}
 use Rattle.tl_base.proofs.Members.{same-ordered}
-use Rattle.tl_base.proofs.Zips.{AllZip-get_or, AllZip-append, AllZip-length}
+use Rattle.tl_base.proofs.Zips.{AllZip-get_or, AllZip-append, AllZip-length, AllZip-from_places}
 use Rattle.tl_grid.specs.declared.shape.Grid.{Grid}
 use Rattle.tl_grid.specs.declared.shape.Place.{Place}
 use Rattle.tl_grid.specs.declared.shape.Shape.{Shape}
@@ -46,16 +46,6 @@ use Rattle.tl_table.proofs.SoundParts.{each_joined}
 
 -- ---- items that belong together, in another order of each list
 
-zip_of : {A B : Type 0} (R : A → B → Type 0) (xs : List A) (ys : List B) → length xs ≡ length ys →
-    ((i : ℕ) (d : A) (e : B) → i < length xs → R (get_or xs i d) (get_or ys i e)) → AllZip R xs ys
-zip_of R [] [] long each = tt
-zip_of R [] (y ∷ ys) long each = absurd (omega arith)
-zip_of R (x ∷ xs) [] long each = absurd (omega arith)
-zip_of R (x ∷ xs) (y ∷ ys) long each = (
-  each 0 x y (omega arith),
-  zip_of R xs ys (omega arith) (λ i d e within. each (suc i) d e (omega arith)),
-)
-
 before_once : (p q : Place) → ComesBefore p q → ComesBefore q p → ⊥
 before_once p q (inl one) (inl other) = omega arith
 before_once p q (inl one) (inr other) = omega (arith, other.0)
@@ -76,7 +66,7 @@ module _ (R : TableCell → TableCell → Type 0) (placed : (x y : TableCell) �
   zip_sorted : (xs ys us vs : List TableCell) → AllZip R xs ys → IsPermutation xs us → IsPermutation ys vs →
       AllPairs ComesBefore (map place_of us) →
       AllPairs ComesBefore (map place_of vs) → AllZip R us vs
-  zip_sorted xs ys us vs all first second rises climbs = zip_of R us vs long each
+  zip_sorted xs ys us vs all first second rises climbs = AllZip-from_places R us vs long each
     where
       same : map place_of xs ≡ map place_of ys
       same = places_same xs ys all

@@ -4,13 +4,13 @@ use Rattle.std.proofs.Common.{refl, sym, ap}
 use Rattle.std.proofs.Common.{subst, ⊎_elim, arith}
 use Rattle.std.specs.List.{AllZip, AllByRecursion, flat_map}
 use Rattle.std.proofs.lemmas.Bool.{cases_lt}
-use Rattle.std.proofs.lemmas.List.{take_more}
 use Rattle.std.proofs.lemmas.List.Concat.{flat_map-cons}
 use Rattle.tl_base.specs.declared.style.Style.{Style}
 use Rattle.tl_base.specs.Style.{gap_of, edge_of}
 use Rattle.tl_base.proofs.Zips.{AllZip-weaker}
 use Rattle.tl_base.proofs.Members.{AllByRecursion-append}
 use Rattle.tl_base.specs.Sizes.{total}
+use Rattle.tl_base.proofs.Taken.{taken_more}
 use Rattle.tl_text.specs.declared.paragraph.Atom.{Atom}
 use Rattle.tl_text.specs.Cuttings.{joined, HasCutting}
 use Rattle.tl_text.proofs.Paragraphs.{AllFit, HasCutting-from_fit}
@@ -230,6 +230,5 @@ pub widest_among-next : (least : ℕ) (items : List Content) (n : ℕ) (item : C
     item ≡ get_or items n item → width ≡ max least (widest_among (take n items)) →
     more ≡ widest_in (out-Content item) → new ≡ max width more → new ≡ max least (widest_among (take (n + 1) items))
 widest_among-next least items n item width more new within is before here max_is =
-    let prefix : take (n + 1) items ≡ take n items ++ item ∷ [] =
-    take_more items n item within ∙ ap (λ last. take n items ++ last ∷ []) (sym is) in
+    let prefix = taken_more items n item item within is in
     omega (arith, before, here, max_is, ap widest_among prefix, widest_among-more (take n items) item)

@@ -1,21 +1,18 @@
 -- Rooms of spans by where they begin and end.
-use Rattle.std.proofs.Common.{◌≡◌, ℕ, ◌+◌, ◌-◌, ◌*◌, ◌<◌, ◌≤◌, ◌∙◌, List, [], ◌∷◌, length, take, drop, sum, sum_by, map}
-use Rattle.std.proofs.Common.{slice_range, refl, sym, ap, arith}
+use Rattle.std.proofs.Common.{◌≡◌, ℕ, ◌+◌, ◌-◌, ◌*◌, ◌<◌, ◌≤◌, ◌∙◌, List, [], ◌∷◌, length, take, drop, sum, sum_by}
+use Rattle.std.proofs.Common.{slice_range, sym, ap, arith}
 use Rattle.std.proofs.lemmas.List.Folds.{drop_split}
 use Rattle.std.proofs.lemmas.List.Sums.{sum-map, sum_by-append, sum_by-cons, sum_by-take-drop}
+use Rattle.std.proofs.lemmas.List.{map-id}
 use Rattle.tl_base.specs.Sizes.{room, total}
 
 -- the sizes before a place
 abbrev pub ahead : List ℕ → ℕ → ℕ
 ahead sizes place = sum_by (λ size. size) (take place sizes)
 
-map_same : (sizes : List ℕ) → map (λ size. size) sizes ≡ sizes
-map_same [] = refl
-map_same (size ∷ sizes) = ap (λ more. size ∷ more) (map_same sizes)
-
 -- a sum is one of the numbers as they are
 pub sum-sum_by : (sizes : List ℕ) → sum sizes ≡ sum_by (λ size. size) sizes
-sum-sum_by sizes = ap sum (sym (map_same sizes)) ∙ sum-map (λ size. size) sizes
+sum-sum_by sizes = ap sum (sym (map-id sizes)) ∙ sum-map (λ size. size) sizes
 
 -- what lies ahead of a place and from it on is all
 ahead-rest : (sizes : List ℕ) (place : ℕ) → ahead sizes place + sum_by (λ size. size) (drop place sizes) ≡ sum_by (λ size. size)

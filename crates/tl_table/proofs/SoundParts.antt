@@ -1,11 +1,11 @@
 -- The tables nested in a sound table are sound.
-use Rattle.std.proofs.Common.{◌≡◌, ℕ, zero, suc, ◌+◌, ◌<◌, ◌≤◌, List, [], ◌∷◌, ◌++◌, length, get_or, sum_by, sym, subst, arith}
+use Rattle.std.proofs.Common.{◌≡◌, ℕ, zero, suc, ◌+◌, ◌<◌, ◌≤◌, List, [], ◌∷◌, length, get_or, sum_by, sym, subst, arith}
 use Rattle.std.specs.List.{AllByRecursion, All, flat_map}
 use Rattle.std.proofs.lemmas.List.Concat.{flat_map-cons}
 use Rattle.std.proofs.lemmas.List.Sums.{sum_by-cons}
 use Rattle.std.proofs.lemmas.List.Elements.{recursion_from_All, All-from_recursion, All-get_or}
 use Rattle.tl_base.specs.declared.limits.TheConstants.{MAX_DEPTH, MAX_PAGE_WIDTH}
-use Rattle.tl_base.proofs.Members.{AllByRecursion-append, AllByRecursion-weaker}
+use Rattle.tl_base.proofs.Members.{AllByRecursion-append, AllByRecursion-weaker, AllByRecursion-prefix, AllByRecursion-suffix}
 use Rattle.tl_table.specs.declared.cell.Content.{out-Content}
 use Rattle.tl_table.specs.declared.cell.Content.TheOpen as open_content
 use Rattle.tl_table.specs.declared.cell.Table.{Table, out-Table}
@@ -22,14 +22,10 @@ use Rattle.tl_table.proofs.SizesOpen.{table_size-out, cell_size-out, content_siz
 pub each_joined : {X Y : Type 0} (P : Y → Type 0) (f : X → List Y) (xs : List X) → AllByRecursion P (flat_map f xs) →
     AllByRecursion (λ x. AllByRecursion P (f x)) xs
 each_joined P f [] all = tt
-each_joined P f (x ∷ xs) all = let both = each_split P (f x) (flat_map f xs)
-    (subst (AllByRecursion P) (flat_map-cons f x xs) all) in
-    (both.0, each_joined P f xs both.1)
-  where
-    each_split : {Y : Type 0} (P : Y → Type 0) (ys zs : List Y) → AllByRecursion P (ys ++ zs) →
-        AllByRecursion P ys × AllByRecursion P zs
-    each_split P [] zs all = (tt, all)
-    each_split P (y ∷ ys) zs all = let rest = each_split P ys zs all.1 in ((all.0, rest.0), rest.1)
+each_joined P f (x ∷ xs) all = let both = subst (AllByRecursion P) (flat_map-cons f x xs) all in (
+  AllByRecursion-prefix P (f x) (flat_map f xs) both,
+  each_joined P f xs (AllByRecursion-suffix P (f x) (flat_map f xs) both),
+)
 
 pub both_each : {X : Type 0} (P Q : X → Type 0) (xs : List X) → AllByRecursion P xs → AllByRecursion Q xs →
     AllByRecursion (λ x. P x × Q x) xs

@@ -3,17 +3,16 @@ use Rattle.std.proofs.Common.{◌≡◌, ◌∙◌, ℕ, zero, suc, ◌+◌, ◌
 use Rattle.std.proofs.Common.{sum_by}
 use Rattle.std.proofs.Common.{slice_index_or, refl, sym, ap, subst, length-append, arith}
 use Rattle.std.specs.List.{All, AllByRecursion}
-use Rattle.std.proofs.lemmas.List.{take_more}
 use Rattle.std.proofs.lemmas.List.Sums.{sum_by-cons, sum_by-append, sum_by_more}
 use Rattle.std.proofs.lemmas.List.Elements.{recursion_from_All, All-from_recursion}
 use Rattle.tl_base.specs.declared.limits.TheConstants.{MAX_COLUMNS, MAX_PAGE_WIDTH}
 use Rattle.tl_base.specs.declared.style.Style.{Style}
 use Rattle.tl_base.specs.Style.{gap_of}
-use Rattle.tl_base.proofs.Zips.{AllZip-push}
 use Rattle.tl_grid.specs.declared.shape.Place.{Place}
 use Rattle.tl_grid.specs.Dropping.{IsPlaced}
 use Rattle.tl_grid.specs.Slots.{HasAnchorInColumn}
 use Rattle.tl_base.specs.Sizes.{room}
+use Rattle.tl_base.proofs.Taken.{taken_more, AllZip-taken}
 use Rattle.tl_table.specs.declared.cell.Content.{Content, out-Content}
 use Rattle.tl_table.specs.declared.cell.Table.{Table, out-Table}
 use Rattle.tl_table.specs.declared.cell.TableCell.{TableCell, out-TableCell}
@@ -155,7 +154,7 @@ pub BlocksSoFar-more : (style : Style) (floor : ℕ) (blocks : List Content) (n 
     BlocksSoFar style floor blocks (n + 1) (max width more)
 BlocksSoFar-more style floor blocks n width more block within is before least small = record {
   least = subst (λ prefix. IsLeastForBlocks style floor prefix (max width more))
-      (sym (take_more blocks n block within ∙ ap (λ last. take n blocks ++ last ∷ []) (sym is)))
+      (sym (taken_more blocks n block block within is))
       (least_for_more style floor (take n blocks) block width more before.least least);
   small = omega (arith, before.small, sum_by_more content_size blocks n block within, ap content_size is);
 }
@@ -184,10 +183,8 @@ pub CellsSoFar-more : (style : Style) (cells : List TableCell) (n : ℕ) (demand
     IsLeastCellRoom style (out-TableCell cell) demand.width →
     demand.width + most_gaps ≤ most_width (cell_size cell) → CellsSoFar style cells (n + 1) (demands ++ demand ∷ [])
 CellsSoFar-more style cells n demands cell demand within is before left right least small = record {
-  each = subst (λ prefix. AreDemandsOf style prefix (demands ++ demand ∷ []))
-      (sym (take_more cells n cell within ∙ ap (λ last. take n cells ++ last ∷ []) (sym is)))
-      (AllZip-push (λ one wants. IsDemandOf style (out-TableCell one) wants) (take n cells) demands cell demand before.each
-      (record { left = left; right = right; room = least }));
+  each = AllZip-taken (λ one wants. IsDemandOf style (out-TableCell one) wants) cells demands n cell cell demand within is
+      before.each (record { left = left; right = right; room = least });
   small = omega (
     arith,
     before.small,

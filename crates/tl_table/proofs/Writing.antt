@@ -13,6 +13,7 @@ use Rattle.std.proofs.lemmas.Iterator.Consumers.{YieldsList-end, YieldsList-so_f
 use Rattle.std.proofs.lemmas.List.{append-nil, map-append, map-id, take_more, take-append-drop}
 use Rattle.tl_base.specs.declared.breaking.Breaking.{Breaking}
 use Rattle.tl_base.proofs.Zips.{AllZip-push, AllZip-append, AllZip-length}
+use Rattle.tl_base.proofs.Taken.{joined_more}
 use Rattle.tl_grid.specs.declared.shape.Place.{Place}
 use Rattle.tl_tree.specs.declared.node.CellNode.{CellNode, out-CellNode}
 use Rattle.tl_table.specs.declared.cell.TableCell.{TableCell, out-TableCell}
@@ -95,22 +96,14 @@ yielded_all from now next vector {found = found} items yielded all given long ra
     let road = YieldsList-from_vec {s = from} items (given ∙ all) (long ∙ vector.ok.0 ∙ ap length all) in
     sym (map-id yielded) ∙ (YieldsList-end road yielded now ran found next is step).0
 
--- the lists of the items so far, joined, and that of the next one
-pub joined_more : {X Y : Type 0} (f : X → List Y) (xs : List X) (i : ℕ) (x : X) → i < length xs → x ≡ get_or xs i x →
-    flat_map f (take (i + 1) xs) ≡ flat_map f (take i xs) ++ f x
-joined_more {X = X} {Y = Y} f xs i x within is =
-    ap (flat_map f) (take_more xs i x within ∙ ap (λ (z : X). take i xs ++ z ∷ []) (sym is))
-    ∙ flat_map-append f (take i xs) (x ∷ [])
-    ∙ ap (λ (rest : List Y). flat_map f (take i xs) ++ rest) (append-nil (f x))
-
--- they are no more than all
+-- the lists of the items so far, joined, and that of the next one are no longer than all
 pub joined_room : {X Y : Type 0} (f : X → List Y) (xs : List X) (i : ℕ) (x : X) → i < length xs → x ≡ get_or xs i x →
     length (flat_map f (take i xs)) + length (f x) ≤ length (flat_map f xs)
 joined_room {X = X} f xs i x within is =
     let whole = ap length (ap (flat_map f) (sym (take-append-drop (i + 1) xs)) ∙ flat_map-append f (take (i + 1) xs)
     (drop (i + 1) xs)) in
     let parts = length-append (flat_map f (take (i + 1) xs)) (flat_map f (drop (i + 1) xs)) in
-    let more = ap length (joined_more f xs i x within is) in
+    let more = ap length (joined_more f xs i x x within is) in
     let both = length-append (flat_map f (take i xs)) (f x) in
     omega arith
 

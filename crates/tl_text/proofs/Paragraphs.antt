@@ -1,6 +1,6 @@
 -- From pieces to paragraphs: the greedy cutting is one, no other has fewer lines, and one holds
 -- just where no unit is too wide.
-use Rattle.std.proofs.Common.{◌≡◌, ℕ, ◌+◌, ◌≤◌, ◌<◌, suc, List, [], ◌∷◌, ◌++◌, length, take, get_or, map, refl, sym, ap, ◌∙◌}
+use Rattle.std.proofs.Common.{◌≡◌, ℕ, ◌+◌, ◌≤◌, ◌<◌, suc, List, [], ◌∷◌, ◌++◌, length, take, get_or, map, refl, sym, ap}
 use Rattle.std.proofs.Common.{subst, arith, length-append}
 use Rattle.std.specs.List.{AllByRecursion, AllZip, onto_first}
 use Rattle.std.proofs.lemmas.List.Concat.{flat_map-append}
@@ -10,7 +10,8 @@ use Rattle.tl_text.specs.Paragraph.{unit_width, gap_before, lined_pieces}
 use Rattle.tl_text.specs.Cuttings.{line_width, joined, IsPieceCut, IsCutting, HoldsIn, HasCutting, FillsLines, IsGreedyCutting}
 use Rattle.tl_text.specs.Cuttings.{LeastLines}
 use Rattle.tl_text.specs.inner.Measure.{measure_of, unit_columns}
-use Rattle.std.proofs.lemmas.List.{take_more}
+use Rattle.tl_base.proofs.Members.{AllByRecursion-append, AllByRecursion-prefix, AllByRecursion-suffix}
+use Rattle.tl_base.proofs.Taken.{taken_more}
 use Rattle.tl_text.proofs.Widths.{units_within, at_choice}
 use Rattle.tl_text.proofs.Greedy.{piece_lines, more, more-least, fill-joined, fill-some, fill-holds, fill-filled, fill-length}
 use Rattle.tl_text.proofs.Greedy.{line_width-single}
@@ -18,23 +19,10 @@ use Rattle.tl_text.proofs.Greedy.{line_width-single}
 -- ---- what holds of each item of lists
 
 module _ {X : Type 0} (P : X → Type 0) where
-  -- of lists one after the other
-  pub all-append : (xs ys : List X) → AllByRecursion P xs → AllByRecursion P ys → AllByRecursion P (xs ++ ys)
-  all-append [] ys left right = right
-  all-append (x ∷ xs) ys left right = (left.0, all-append xs ys left.1 right)
-
-  pub all-prefix : (xs ys : List X) → AllByRecursion P (xs ++ ys) → AllByRecursion P xs
-  all-prefix [] ys each = tt
-  all-prefix (x ∷ xs) ys each = (each.0, all-prefix xs ys each.1)
-
-  pub all-suffix : (xs ys : List X) → AllByRecursion P (xs ++ ys) → AllByRecursion P ys
-  all-suffix [] ys each = each
-  all-suffix (x ∷ xs) ys each = all-suffix xs ys each.1
-
   -- of the items of a list's lists
   pub all-joined : (lists : List (List X)) → AllByRecursion (AllByRecursion P) lists → AllByRecursion P (joined lists)
   all-joined [] each = tt
-  all-joined (list ∷ lists) each = all-append list (joined lists) each.0 (all-joined lists each.1)
+  all-joined (list ∷ lists) each = AllByRecursion-append P list (joined lists) each.0 (all-joined lists each.1)
 
   pub all-onto : (x : X) (parts : List (List X)) → P x → AllByRecursion (AllByRecursion P) parts →
       AllByRecursion (AllByRecursion P) (onto_first x parts)
@@ -90,7 +78,7 @@ piece-holds w (unit ∷ units) each = fill-holds w (unit ∷ []) units (omega (a
 pieces-hold : (w : ℕ) (pieces : List (List Atom)) → AllByRecursion (AllFit w) pieces → HoldsIn w (map (piece_lines w) pieces)
 pieces-hold w [] each = tt
 pieces-hold w (piece ∷ pieces) each =
-    all-append (λ line. line_width line ≤ w) (piece_lines w piece) (joined (map (piece_lines w) pieces))
+    AllByRecursion-append (λ line. line_width line ≤ w) (piece_lines w piece) (joined (map (piece_lines w) pieces))
     (piece-holds w piece each.0)
     (pieces-hold w pieces each.1)
 
@@ -127,8 +115,8 @@ pieces-least : (w : ℕ) (pieces : List (List Atom)) (cut : List (List (List Ato
 pieces-least w [] cut is holds = omega arith
 pieces-least w (piece ∷ pieces) [] is holds = absurd is
 pieces-least w (piece ∷ pieces) (lines ∷ cut) is holds =
-    let here = piece-least w piece lines is.0 (all-prefix (λ line. line_width line ≤ w) lines (joined cut) holds) in
-    let there = pieces-least w pieces cut is.1 (all-suffix (λ line. line_width line ≤ w) lines (joined cut) holds) in
+    let here = piece-least w piece lines is.0 (AllByRecursion-prefix (λ line. line_width line ≤ w) lines (joined cut) holds) in
+    let there = pieces-least w pieces cut is.1 (AllByRecursion-suffix (λ line. line_width line ≤ w) lines (joined cut) holds) in
     omega (arith, length-append lines (joined cut), length-append (piece_lines w piece) (joined (map (piece_lines w) pieces)))
 
 -- the greedy cutting has the least number of lines
@@ -145,7 +133,7 @@ greedy_cut-least w atoms each =
 lines-fit : (w : ℕ) (lines : List (List Atom)) → AllByRecursion (λ line. line_width line ≤ w) lines → AllFit w (joined lines)
 lines-fit w [] holds = tt
 lines-fit w (line ∷ lines) holds =
-    all-append (λ atom. unit_width atom ≤ w) line (joined lines) (units_within w line (omega (arith, holds.0)))
+    AllByRecursion-append (λ atom. unit_width atom ≤ w) line (joined lines) (units_within w line (omega (arith, holds.0)))
     (lines-fit w lines holds.1)
 
 piece-fits : (w : ℕ) (piece : List Atom) (lines : List (List Atom)) → IsPieceCut piece lines →
@@ -160,8 +148,8 @@ pieces-of-cut-fit : (w : ℕ) (pieces : List (List Atom)) (cut : List (List (Lis
 pieces-of-cut-fit w [] cut is holds = tt
 pieces-of-cut-fit w (piece ∷ pieces) [] is holds = absurd is
 pieces-of-cut-fit w (piece ∷ pieces) (lines ∷ cut) is holds = (
-  piece-fits w piece lines is.0 (all-prefix (λ line. line_width line ≤ w) lines (joined cut) holds),
-  pieces-of-cut-fit w pieces cut is.1 (all-suffix (λ line. line_width line ≤ w) lines (joined cut) holds),
+  piece-fits w piece lines is.0 (AllByRecursion-prefix (λ line. line_width line ≤ w) lines (joined cut) holds),
+  pieces-of-cut-fit w pieces cut is.1 (AllByRecursion-suffix (λ line. line_width line ≤ w) lines (joined cut) holds),
 )
 
 pub atoms-of-cut-fit : (w : ℕ) (atoms : List Atom) (cut : List (List (List Atom))) → IsCutting atoms cut → HoldsIn w cut →
@@ -199,18 +187,18 @@ columns_of-measure_of Break = refl
 
 module _ (w : ℕ) (atoms : List Atom) (n : ℕ) (atom : Atom) (within : n < length atoms) (is : atom ≡ get_or atoms n atom) where
   prefix : take (n + 1) atoms ≡ take n atoms ++ atom ∷ []
-  prefix = take_more atoms n atom within ∙ ap (λ last. take n atoms ++ last ∷ []) (sym is)
+  prefix = taken_more atoms n atom atom within is
 
   -- the atoms up to it fit where it and those before it do
   pub AllFit-more : AllFit w (take n atoms) → unit_width atom ≤ w → AllFit w (take (n + 1) atoms)
   AllFit-more before here = subst (λ first. AllFit w first) (sym prefix)
-      (all-append (λ a. unit_width a ≤ w) (take n atoms) (atom ∷ []) before (here, tt))
+      (AllByRecursion-append (λ a. unit_width a ≤ w) (take n atoms) (atom ∷ []) before (here, tt))
 
   pub AllFit-less : AllFit w (take (n + 1) atoms) → AllFit w (take n atoms) × (unit_width atom ≤ w)
   AllFit-less each =
       let both : AllFit w (take n atoms ++ atom ∷ []) = subst (λ first. AllFit w first) prefix each in (
-        all-prefix (λ a. unit_width a ≤ w) (take n atoms) (atom ∷ []) both,
-        (all-suffix (λ a. unit_width a ≤ w) (take n atoms) (atom ∷ []) both).0,
+        AllByRecursion-prefix (λ a. unit_width a ≤ w) (take n atoms) (atom ∷ []) both,
+        (AllByRecursion-suffix (λ a. unit_width a ≤ w) (take n atoms) (atom ∷ []) both).0,
       )
 
 -- ---- the least width

@@ -1,12 +1,12 @@
 -- The greedy cutting as ranges of atoms, one atom after the other.
-use Rattle.std.proofs.Common.{◌≡◌, ℕ, ◌+◌, ◌-◌, ◌≤◌, ◌<◌, Bool, true, false, if◌then◌else◌, nat_le, not, List, [], ◌∷◌, ◌++◌}
+use Rattle.std.proofs.Common.{◌≡◌, ℕ, ◌+◌, ◌-◌, ◌≤◌, ◌<◌, Bool, true, false, if◌then◌else◌, nat_le, List, [], ◌∷◌, ◌++◌}
 use Rattle.std.proofs.Common.{length, drop, take}
 use Rattle.std.proofs.Common.{get_or, map, Option, Some, None, IsSome, is_some, refl, sym, ap, ◌∙◌, subst, arith, append_assoc}
 use Rattle.std.proofs.Common.{inl, inr}
 use Rattle.std.specs.List.{onto_first, AllZip, slice_range}
 use Rattle.std.proofs.lemmas.List.{append-nil, drop_more, drop_all, take_at, length_push}
 use Rattle.std.proofs.lemmas.Slice.Zip.{AllZip-long}
-use Rattle.std.proofs.lemmas.Bool.{false≢true}
+use Rattle.std.proofs.lemmas.Bool.{false≢true, not-false, not-true}
 use Rattle.tl_base.proofs.Zips.{AllZip-push}
 use Rattle.tl_text.specs.declared.paragraph.Atom.{Atom}
 use Rattle.tl_text.specs.declared.paragraph.Atom.TheVariants.{Word, Glue, Break}
@@ -119,14 +119,6 @@ some_choice : (b : Bool) (m n : ℕ) → (if b then Some m else Some n) ≡ None
 some_choice true m n none = cc
 some_choice false m n none = cc
 
-not_false : (b : Bool) → not b ≡ false → b ≡ true
-not_false true h = refl
-not_false false h = sym h
-
-not_true : (b : Bool) → not b ≡ true → b ≡ false
-not_true true h = sym h
-not_true false h = refl
-
 -- only a break leaves no line open
 is_break : (w : ℕ) (line : Option ℕ) (atom : Atom) → next_line w line (measure_of atom) ≡ None → atom ≡ Break
 is_break w line Break none = refl
@@ -143,8 +135,8 @@ joins w [] Break atoms stays = cc
 joins w (first ∷ line) Break atoms stays = cc
 joins w [] (Word text) atoms stays = (refl, ap (λ v. Some v) (sym (line_width-single (Word text))))
 joins w [] (Glue text) atoms stays = (refl, ap (λ v. Some v) (sym (line_width-single (Glue text))))
-joins w (first ∷ line) (Word text) atoms stays = joins_unit w first line (Word text) _ _ (not_false _ stays)
-joins w (first ∷ line) (Glue text) atoms stays = joins_unit w first line (Glue text) _ _ (not_false _ stays)
+joins w (first ∷ line) (Word text) atoms stays = joins_unit w first line (Word text) _ _ (not-false _ stays)
+joins w (first ∷ line) (Glue text) atoms stays = joins_unit w first line (Glue text) _ _ (not-false _ stays)
 
 -- a unit that ends a line, which then has units, begins the next
 starts : (w : ℕ) (units : List Atom) (atom : Atom) (atoms : List Atom) → ends_line w (width_if_any units) (measure_of atom) ≡ true
@@ -155,11 +147,11 @@ starts w [] (Word text) atoms ended unit = absurd (false≢true ended)
 starts w [] (Glue text) atoms ended unit = absurd (false≢true ended)
 starts w (first ∷ line) (Word text) atoms ended unit =
     let both = starts_unit w first line (Word text) (lines_from w ((first ∷ line) ++ Word text ∷ []) atoms)
-    ((first ∷ line) ∷ lines_from w (Word text ∷ []) atoms) (not_true _ ended) in
+    ((first ∷ line) ∷ lines_from w (Word text ∷ []) atoms) (not-true _ ended) in
     (omega arith, both.0, both.1)
 starts w (first ∷ line) (Glue text) atoms ended unit =
     let both = starts_unit w first line (Glue text) (lines_from w ((first ∷ line) ++ Glue text ∷ []) atoms)
-    ((first ∷ line) ∷ lines_from w (Glue text ∷ []) atoms) (not_true _ ended) in
+    ((first ∷ line) ∷ lines_from w (Glue text ∷ []) atoms) (not-true _ ended) in
     (omega arith, both.0, both.1)
 
 -- ---- ranges

@@ -1,86 +1,35 @@
 -- Each zone of a sound problem has one need, and the need of the whole is below the number of its class vectors. And a
 -- problem has one chosen placement.
-use Rattle.std.proofs.Common.{◌≡◌, ℕ, ◌+◌, ◌-◌, ◌*◌, ◌^◌, ◌<◌, ◌≤◌, zero, suc, List, [], ◌∷◌, ◌⊎◌, inl, inr, length, map, get_or}
-use Rattle.std.proofs.Common.{set, refl, sym, ap, ◌∙◌, subst, arith}
+use Rattle.std.proofs.Common.{◌≡◌, ℕ, ◌+◌, ◌-◌, ◌^◌, ◌<◌, ◌≤◌, zero, suc, List, [], ◌∷◌, ◌⊎◌, inl, inr, length, get_or}
+use Rattle.std.proofs.Common.{refl, sym, ◌∙◌, subst, arith}
 use Rattle.std.proofs.lemmas.Bool.{cases_lt, cases_eq}
 use Rattle.tl_base.specs.Style.{gap_of}
-use Rattle.tl_problem.specs.declared.cell.Span.{Span}
 use Rattle.tl_problem.specs.declared.placed.Placed.{Placed}
 use Rattle.tl_problem.specs.declared.zone.Range.{Range}
 use Rattle.tl_problem.specs.Problem.{ProblemModel}
 use Rattle.tl_problem.specs.Sound.{IsSound}
-use Rattle.tl_problem.specs.Spans.{spans_of, classes_of, product, count_of}
+use Rattle.tl_problem.specs.Spans.{count_of}
 use Rattle.tl_problem.specs.Zones.{range, range_at, IsZone, whole_zone, InZone, IsFirstOpen}
 use Rattle.tl_problem.specs.Agreement.{HasOneClass}
 use Rattle.tl_problem.specs.Tight.{IsTightFrom}
 use Rattle.tl_problem.specs.Placements.{AreLeast}
 use Rattle.tl_problem.proofs.BoundLaws.{bound-unique}
-use Rattle.tl_problem.proofs.SpanLaws.{classes-some}
 use Rattle.tl_problem.proofs.TightLaws.{least-unique, tight-unique}
 use Rattle.tl_problem.proofs.ZoneLaws.{whole-is_zone}
+use Rattle.tl_problem.proofs.ZoneSizes.{size, size-cut, size-whole, zone-some}
 use Rattle.tl_tidy.specs.Classes.{zone_of_vector, IsChosen}
 use Rattle.tl_tidy.specs.Needs.{first_part, rest_part, HasLowBound, IsTooHigh, ZoneHoldsLow, IsNeed, too_high, one_class, lower, both}
 use Rattle.tl_tidy.proofs.BoundsExist.{low-or_high, decide-holds}
 use Rattle.tl_tidy.proofs.Parts.{some-classes, first-zone, rest-zone}
 use Rattle.tl_tidy.proofs.Vectors.{before-once}
 
--- ---- how many vectors a zone has
-
--- how many classes a range has, and how many vectors a zone has
-wide : Range → ℕ
-wide r = r.last + 1 - r.first
-
-size : List Range → ℕ
-size zone = product (map wide zone)
-
--- a range cut in two separates the vectors
-size-parts : (zone : List Range) (s : ℕ) (a b : Range) → s < length zone → wide a + wide b ≡ wide (range_at zone s) →
-    size (set zone s a) + size (set zone s b) ≡ size zone
-unfolding size
-size-parts [] s a b there parts = absurd (omega arith)
-size-parts (r ∷ zone) zero a b there parts = times_sum (wide a) (wide b) (wide r) (product (map wide zone)) parts where
-  times_sum : (x y z n : ℕ) → x + y ≡ z → x * n + y * n ≡ z * n
-  times_sum x y z n sum = rw (← sum) (grind arith)
-size-parts (r ∷ zone) (suc s) a b there parts =
-    let rest = size-parts zone s a b (omega arith) parts in
-    spread (wide r) (product (map wide (set zone s a))) (product (map wide (set zone s b))) (product (map wide zone)) rest where
-      spread : (n x y z : ℕ) → x + y ≡ z → n * x + n * y ≡ n * z
-      spread n x y z sum = rw (← sum) (grind arith)
-
--- a zone in which each range has a class has a vector
-size-some : (zone : List Range) → ((s : ℕ) → s < length zone → (range_at zone s).first ≤ (range_at zone s).last) → 1 ≤ size zone
-unfolding size wide
-size-some [] each = omega arith
-size-some (r ∷ zone) each = times_some (r.last + 1 - r.first) (product (map wide zone)) (let first = each 0 (omega arith) in
-    omega (arith, first)) (size-some zone (λ s within. each (suc s) (omega arith))) where
-      times_some : (m n : ℕ) → 1 ≤ m → 1 ≤ n → 1 ≤ m * n
-      times_some m n one other = grind arith
-
--- the whole has as many as there are class vectors
-size-whole : (problem : ProblemModel) → size (whole_zone problem) ≡ product
-    (map (λ columns. length (classes_of problem columns)) (spans_of problem))
-unfolding size wide
-size-whole problem = each (spans_of problem) where
-  each : (spans : List Span) →
-      product (map wide (map (λ columns. range 0 (length (classes_of problem columns) - 1)) spans)) ≡ product
-      (map (λ columns. length (classes_of problem columns)) spans)
-  each [] = refl
-  each (columns ∷ spans) =
-      let here : length (classes_of problem columns) - 1 + 1 - 0 ≡ length (classes_of problem columns) =
-      omega (arith, classes-some problem columns) in
-      ap (λ n. n * product (map wide (map (λ c. range 0 (length (classes_of problem c) - 1)) spans))) here ∙ ap
-      (λ n. length (classes_of problem columns) * n) (each spans)
-
-zone-some : (problem : ProblemModel) (zone : List Range) → IsZone problem zone → 1 ≤ size zone
-zone-some problem zone is = size-some zone (λ s within. (is.ranges s within).0)
+-- ---- how many vectors the parts of a zone have
 
 module _ (problem : ProblemModel) (sound : IsSound problem) (zone : List Range) (is : IsZone problem zone) (s : ℕ)
     (opens : IsFirstOpen zone s) where
   sizes-of_parts : size (first_part zone s) + size (rest_part zone s) ≡ size zone
-  unfolding wide
   sizes-of_parts = let more = some-classes problem sound 0 zone is s opens in
-      size-parts zone s (range (range_at zone s).first (range_at zone s).first)
-      (range ((range_at zone s).first + 1) (range_at zone s).last) opens.there (omega (arith, more))
+      size-cut zone s (range_at zone s).first opens.there (omega arith) (omega (arith, more))
 
 -- ---- a zone has one need
 

@@ -77,14 +77,6 @@ vector-range : (vector : List ℕ) (s : ℕ) → s < length vector →
 vector-range vector s within = get_or-map (λ class. range class class) vector s 0 (range 0 0) within
 
 module _ (problem : ProblemModel) (sound : IsSound problem) where
-  -- the whole has every vector
-  pub whole-vector : (vector : List ℕ) → IsVector problem vector → HasVector (whole_zone problem) vector
-  whole-vector vector is s within =
-      let inside : s < length (spans_of problem) = omega (arith, within, (whole-is_zone problem).spans) in
-      let class = is.classes s (omega (arith, inside, is.spans)) in
-      let whole = whole-range problem s inside in
-      (omega (arith, ap (λ r. r.first) whole), omega (arith, ap (λ r. r.last) whole, class))
-
   -- a vector of a zone has its widths within the zone
   pub vector-inside : (zone : List Range) → IsZone problem zone → (vector : List ℕ) → IsVector problem vector →
       HasVector zone vector → (widths : List ℕ) →

@@ -13,7 +13,7 @@ use Rattle.tl_problem.specs.Placements.{AreLeast, IsPlacement, IsPlacementIn}
 use Rattle.tl_problem.proofs.BoundLaws.{bound-below_layout, low-from_high, placement-layout}
 use Rattle.tl_problem.proofs.OneClass.{high-from_greatest, one_class-height}
 use Rattle.tl_problem.proofs.SpanLaws.{class-in_page}
-use Rattle.tl_problem.proofs.ZoneLaws.{whole-is_zone, whole-all}
+use Rattle.tl_problem.proofs.ZoneLaws.{whole-is_zone, whole-all, whole-vector}
 use Rattle.tl_tidy.specs.Classes.{HoldsLow, IsChosen}
 use Rattle.tl_tidy.specs.Needs.{first_part, rest_part, HasLowBound, IsTooHigh, ZoneHoldsLow, IsNeed, too_high, one_class, lower, both}
 use Rattle.tl_tidy.specs.Needs.{IsNeedWithin, IsNeedAbove}
@@ -22,7 +22,7 @@ use Rattle.tl_tidy.specs.inner.Walk.{HoldsNone, IsFirstIn, IsFirstOf, AreNeeds, 
 use Rattle.tl_tidy.proofs.BoundsExist.{decide-holds}
 use Rattle.tl_tidy.proofs.NeedLaws.{cut-needs, need-exists}
 use Rattle.tl_tidy.proofs.Parts.{first-zone, rest-zone, first-holds, rest-holds, parts-none, first-first, rest-first}
-use Rattle.tl_tidy.proofs.Vectors.{holds-within, whole-vector, firsts, firsts-zone, one-first}
+use Rattle.tl_tidy.proofs.Vectors.{holds-within, firsts, firsts-zone, one-first}
 
 -- ---- zones that hold none, and zones of one class for each span
 
@@ -188,7 +188,7 @@ module _ (problem : ProblemModel) (sound : IsSound problem) (height : ℕ) where
             vector = firsts zone;
             chosen = record {
               low = first.low;
-              first = λ other low. first.first other (whole-vector problem sound other low.vectors) low;
+              first = λ other low. first.first other (whole-vector problem other low.vectors) low;
             };
             widths = is.widths;
             least = subst (λ z. AreLeast (gap_of problem.style) (InZone problem z) is.widths) (sym (firsts-zone zone one)) is.least;

@@ -1,7 +1,7 @@
 -- What tests of characters say of one another.
-use Rattle.std.proofs.Common.{◌≡◌, ◌≢◌, ℕ, Bool, true, false, not, ◌||◌, ◌⊎◌, List, [], ◌∷◌, ◌++◌, refl, sym, ◌∙◌, subst, inl}
+use Rattle.std.proofs.Common.{◌≡◌, ◌≢◌, ℕ, Bool, true, false, ◌||◌, ◌⊎◌, List, [], ◌∷◌, ◌++◌, refl, sym, ◌∙◌, subst, inl}
 use Rattle.std.proofs.Common.{inr, eqb, cond, append_assoc}
-use Rattle.std.proofs.lemmas.Bool.{eqb-true, false≢true}
+use Rattle.std.proofs.lemmas.Bool.{eqb-true, false≢true, cases_Bool}
 use Rattle.tl_base.specs.Lists.{is_among}
 use Rattle.tl_token.specs.Characters.{begins}
 use Rattle.tl_token.specs.inner.Reader.{Eats}
@@ -28,14 +28,6 @@ pub or_false : (a b : Bool) → (a || b) ≡ false → (a ≡ false) × (b ≡ f
 or_false true b h = absurd (false≢true (sym h))
 or_false false b h = (refl, h)
 
-pub not_true : (a : Bool) → not a ≡ true → a ≡ false
-not_true true h = absurd (false≢true h)
-not_true false h = refl
-
-pub not_false : (a : Bool) → a ≡ true → not a ≡ false
-not_false true h = refl
-not_false false h = absurd (false≢true h)
-
 pub clash : (a : Bool) → a ≡ true → a ≡ false → ⊥
 clash a h k = false≢true (sym k ∙ h)
 
@@ -58,13 +50,9 @@ push≢nil (y ∷ xs) x h = cc
 pub push_regroup : (xs ys : List ℕ) (c : ℕ) → (xs ++ c ∷ []) ++ ys ≡ xs ++ (c ∷ ys)
 push_regroup xs ys c = append_assoc xs (c ∷ []) ys
 
-pub cases_bool : (b : Bool) → (b ≡ true) ⊎ (b ≡ false)
-cases_bool true = inl refl
-cases_bool false = inr refl
-
 -- a character of a class is none that is not of it
 pub excludes : (test : ℕ → Bool) (c d : ℕ) → test d ≡ false → test c ≡ true → is_among (d ∷ []) c ≡ false
-excludes test c d not_d is_c = elim (cases_bool (is_among (d ∷ []) c)) [
+excludes test c d not_d is_c = elim (cases_Bool (is_among (d ∷ []) c)) [
   | inl e ↦ let P : ℕ → Type 0 = λ x. test x ≡ true in absurd (clash (test d) (subst P (is_it c d e) is_c) not_d)
   | inr e ↦ e
 ]

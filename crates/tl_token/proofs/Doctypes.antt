@@ -1,15 +1,15 @@
 -- What is read as a doctype is one of the grammar, and what is no prefix of one is none.
-use Rattle.std.proofs.Common.{◌≡◌, ◌≢◌, ℕ, Bool, true, false, ◌&&◌, List, [], ◌∷◌, ◌++◌, Option, Some, None, refl, sym, ap, ◌∙◌}
+use Rattle.std.proofs.Common.{◌≡◌, ◌≢◌, ℕ, Bool, true, ◌&&◌, List, [], ◌∷◌, ◌++◌, Option, Some, None, refl, sym, ap, ◌∙◌}
 use Rattle.std.proofs.Common.{subst, inl, inr, eqb}
 use Rattle.std.proofs.Common.{cond, append_assoc}
-use Rattle.std.proofs.lemmas.Bool.{false≢true, and_parts, and_from}
+use Rattle.std.proofs.lemmas.Bool.{false≢true, and_parts, and_from, cases_Bool}
 use Rattle.std.specs.Prelude.{codes}
 use Rattle.std.specs.Char.{to_ascii_lowercase}
 use Rattle.tl_token.specs.Elements.{is_word}
 use Rattle.tl_token.specs.Grammar.{past_first, hidden, tag, character, unended_tag, unended_comment, bad_tag, unknown_element}
 use Rattle.tl_token.specs.Grammar.{bad_reference, bad_character}
 use Rattle.tl_token.specs.inner.Reading.{Found, stands, faulty, closed_or, in_doctype, doctype_word}
-use Rattle.tl_token.proofs.CharacterTests.{chosen, cases_bool, clash}
+use Rattle.tl_token.proofs.CharacterTests.{chosen, clash}
 
 -- after the `<!`, the rest w of the word, and anything up to the first `>`
 pub record Worded (w cs rest : List ℕ) : Type 0 where
@@ -107,7 +107,7 @@ pub word_is : (w cs : List ℕ) → is_word w w ≡ true → WordIs (doctype_wor
 word_is [] cs small = closed_word cs (past_first (codes ">") cs) refl
 word_is (d ∷ w) [] small =
     ((d ∷ w) ++ codes ">", (λ e. cc), record { word = d ∷ w; inside = codes ">"; opened = refl; named = small; closed = refl })
-word_is (d ∷ w) (c ∷ cs) small = elim (cases_bool (eqb (to_ascii_lowercase c) d)) [
+word_is (d ∷ w) (c ∷ cs) small = elim (cases_Bool (eqb (to_ascii_lowercase c) d)) [
   | inl e ↦
       let P : Bool → Type 0 = λ b. WordIs (cond b (doctype_word w cs) (faulty bad_tag)) (d ∷ w) (c ∷ cs) in
       subst P (sym e) (more_word (doctype_word w cs) w cs c d e (word_is w cs ((and_parts _ _ small).1)))

@@ -2,7 +2,7 @@
 use Rattle.std.proofs.Common.{◌≡◌, ℕ, ◌<◌, Bool, true, false, not, ◌&&◌, List, [], ◌∷◌, ◌++◌, Some, None, length, refl, sym, ap}
 use Rattle.std.proofs.Common.{◌∙◌, inl, inr, eqb}
 use Rattle.std.proofs.Common.{cond, drop, get_or, ◌+◌, add-one, drop-cons}
-use Rattle.std.proofs.lemmas.Bool.{eqb-true, eq-eqb}
+use Rattle.std.proofs.lemmas.Bool.{eqb-true, eq-eqb, not-true}
 use Rattle.std.proofs.lemmas.Bool.Decides.{eqb_tells}
 use Rattle.std.specs.Prelude.{codes}
 use Rattle.std.specs.Char.{to_ascii_lowercase}
@@ -10,7 +10,6 @@ use Rattle.tl_token.specs.inner.Reading.{doctype_word, in_doctype, faulty, angle
 use Rattle.tl_token.specs.Grammar.{unended_tag, bad_tag, Each, has_prefix, past_first}
 use Rattle.std.proofs.Math.Seq.{drop-length}
 use Rattle.tl_token.specs.Characters.{first, begins, run, past}
-use Rattle.tl_token.proofs.CharacterTests.{not_true}
 use Rattle.tl_token.proofs.TagSteps.{run_split, run_each, past_ended, nothing_left}
 
 -- characters that are no `>`, before the first `>`
@@ -18,7 +17,7 @@ before_close : (w cs : List ℕ) → Each (λ c. not (eqb c 62)) w → past_firs
 before_close [] cs h = refl
 before_close (c ∷ w) cs h =
     ap (λ b. cond (b && true) (Some (w ++ cs)) (past_first (codes ">") (w ++ cs)))
-    (not_true (eqb c 62) (h.0)) ∙ before_close w cs (h.1)
+    (not-true (eqb c 62) (h.0)) ∙ before_close w cs (h.1)
 
 pub close_found : (old new : List ℕ) → past (λ c. not (eqb c 62)) old ≡ 62 ∷ new → past_first (codes ">") old ≡ Some new
 close_found old new e =
@@ -38,7 +37,7 @@ before_dash : (w cs : List ℕ) → Each (λ c. not (eqb c 45)) w → past_first
 before_dash [] cs h = refl
 before_dash (c ∷ w) cs h =
     ap (λ b. cond (b && has_prefix (codes "->") (w ++ cs)) (Some (drop 3 (c ∷ (w ++ cs)))) (past_first (codes "-->") (w ++ cs)))
-    (not_true (eqb c 45) (h.0)) ∙ before_dash w cs (h.1)
+    (not-true (eqb c 45) (h.0)) ∙ before_dash w cs (h.1)
 
 pub to_dash : (old : List ℕ) → past_first (codes "-->") old ≡ past_first (codes "-->") (past (λ c. not (eqb c 45)) old)
 to_dash old =

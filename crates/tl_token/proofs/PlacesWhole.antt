@@ -1,7 +1,7 @@
 -- The reader finds each piece and each fault of the grammar. So at most one stands at a place.
 use Rattle.std.proofs.Common.{◌≡◌, ◌≢◌, ℕ, Bool, true, false, ◌||◌, ◌⊎◌, List, [], ◌∷◌, ◌++◌, refl, sym, ap, ◌∙◌, subst, inl, inr}
 use Rattle.std.proofs.Common.{eqb, cond}
-use Rattle.std.proofs.lemmas.Bool.{false≢true}
+use Rattle.std.proofs.lemmas.Bool.{false≢true, cases_Bool, not-true}
 use Rattle.std.specs.Prelude.{codes}
 use Rattle.std.specs.Char.{is_ascii_alphabetic}
 use Rattle.tl_token.specs.Characters.{◌∈◌, is_control, opens_markup, begins}
@@ -15,7 +15,7 @@ use Rattle.tl_token.specs.inner.States.{tag_open, TagOutcome, reads, unended, wr
 use Rattle.tl_token.specs.inner.Reading.{Found, stands, faulty, closed_or, declaration, known_or_not, tag_found, angle}
 use Rattle.tl_token.specs.inner.Reading.{referred_or, standing}
 use Rattle.tl_token.specs.declared.token.TokenKind.{TokenKind}
-use Rattle.tl_token.proofs.CharacterTests.{cases_bool, clash, is_it, or_cases, or_false, or_left, not_true, excludes}
+use Rattle.tl_token.proofs.CharacterTests.{clash, is_it, or_cases, or_false, or_left, excludes}
 use Rattle.tl_token.proofs.TagWhole.{tag_whole}
 use Rattle.tl_token.proofs.TagMore.{further, Further}
 use Rattle.tl_token.proofs.Doctypes.{Worded, word_whole, word_unended}
@@ -87,7 +87,7 @@ place_whole c cs _ rest (doctype k) =
   where
     worded : (ds : List ℕ) → Worded (codes "doctype") ds rest → declaration ds ≡ stands hidden rest
     worded [] w = let never : faulty unended_tag ≡ stands hidden rest = word_whole (codes "doctype") [] rest w in cc
-    worded (d ∷ ds) w = elim (cases_bool (d ∈ "-")) [
+    worded (d ∷ ds) w = elim (cases_Bool (d ∈ "-")) [
       | inl e ↦
           let P : ℕ → Type 0 = λ x. Worded (codes "doctype") (x ∷ ds) rest in
           absurd (no_dash ds rest (subst P (is_it d 45 e) w))
@@ -96,12 +96,12 @@ place_whole c cs _ rest (doctype k) =
 place_whole c cs _ rest (markup element t k known kind) =
     tag_is_read c cs t rest k ∙ ap (known_or_not t rest) known ∙ ap (λ (x : TokenKind). stands (tag x) rest) (sym kind)
 place_whole c cs _ rest (by_reference a h) = ap (λ x. standing x cs) (is_it c 38 a) ∙ ap (referred_or cs) h
-place_whole c cs _ _ (plain k) = elim (cases_bool (c ∈ "<")) [
-  | inl l ↦ ap (λ x. standing x cs) (is_it c 60 l) ∙ text cs ((k.1 l).0) (not_true (begins opens_markup cs) ((k.1 l).1))
+place_whole c cs _ _ (plain k) = elim (cases_Bool (c ∈ "<")) [
+  | inl l ↦ ap (λ x. standing x cs) (is_it c 60 l) ∙ text cs ((k.1 l).0) (not-true (begins opens_markup cs) ((k.1 l).1))
       ∙ ap (λ x. stands (character x) cs) (sym (is_it c 60 l))
-  | inr l ↦ second_of_two (c ∈ "<") _ _ l ∙ elim (cases_bool (c ∈ "&")) [
+  | inr l ↦ second_of_two (c ∈ "<") _ _ l ∙ elim (cases_Bool (c ∈ "&")) [
     | inl a ↦ first_of_two (c ∈ "&") _ _ a ∙ ap (referred_or cs) (k.2 a) ∙ ap (λ x. stands (character x) cs) (sym (is_it c 38 a))
-    | inr a ↦ second_of_two (c ∈ "&") _ _ a ∙ second_of_two (is_control c) _ _ (not_true (is_control c) (k.0))
+    | inr a ↦ second_of_two (c ∈ "&") _ _ a ∙ second_of_two (is_control c) _ _ (not-true (is_control c) (k.0))
   ]
 ]
   where
@@ -147,7 +147,7 @@ prefix_of_doctype c (d ∷ cs) more some k =
   where
     worded : (ds : List ℕ) → Worded (codes "doctype") (ds ++ more) [] → declaration ds ≡ faulty unended_tag
     worded [] w = refl
-    worded (d ∷ ds) w = elim (cases_bool (d ∈ "-")) [
+    worded (d ∷ ds) w = elim (cases_Bool (d ∈ "-")) [
       | inl e ↦
           let P : ℕ → Type 0 = λ x. Worded (codes "doctype") (x ∷ (ds ++ more)) [] in
           absurd (no_dash (ds ++ more) [] (subst P (is_it d 45 e) w))
@@ -167,7 +167,7 @@ bad_is_found c cs (stands _ rest) bad (plain k) =
     let later : cs ≡ bad.second ∷ bad.after = cc in
     let P : ℕ → Type 0 = λ x. (x ∈ "<") ≡ true in
     let no = (k.1 (subst P (sym is) refl)).1 in
-    absurd (clash (opens_markup (bad.second)) (bad.opens) (sym (ap (begins opens_markup) later) ∙ not_true
+    absurd (clash (opens_markup (bad.second)) (bad.opens) (sym (ap (begins opens_markup) later) ∙ not-true
     (begins opens_markup cs) no))
 bad_is_found c cs (faulty unended_tag) bad k = absurd (bad.ended k)
 bad_is_found c cs (faulty unended_comment) bad k = absurd (bad.comment_ended k)

@@ -2,7 +2,7 @@
 use Rattle.std.proofs.Common.{◌≡◌, ◌≢◌, ℕ, ◌<◌, ◌≤◌, Bool, true, false, not, ◌||◌, ◌⊎◌, List, [], ◌∷◌, ◌++◌, length, refl, sym}
 use Rattle.std.proofs.Common.{ap, ◌∙◌, subst, inl}
 use Rattle.std.proofs.Common.{inr, eqb, cond, append_assoc, arith, if◌then◌else◌}
-use Rattle.std.proofs.lemmas.Bool.{eq-eqb, false≢true}
+use Rattle.std.proofs.lemmas.Bool.{eq-eqb, false≢true, cases_Bool}
 use Rattle.std.proofs.lemmas.List.{append-nil}
 use Rattle.std.proofs.lemmas.Bool.Decides.{nat_tests}
 use Rattle.std.specs.Prelude.{IfOk, Result, Ok, Err, IsErrAnd}
@@ -18,7 +18,7 @@ use Rattle.tl_token.specs.declared.tag.Given.{Given}
 use Rattle.tl_token.specs.inner.Reading.{tag_found}
 use Rattle.tl_token.specs.declared.piece.Fault.{Fault}
 use Rattle.tl_token.specs.inner.Reader.{Eats}
-use Rattle.tl_token.proofs.CharacterTests.{cases_bool, or_right, or_false}
+use Rattle.tl_token.proofs.CharacterTests.{or_right, or_false}
 use Rattle.tl_token.proofs.TagWhole.{took, left, after_name_run, before_value_run, in_quotes_run, tag_name_run, to_equals}
 use Rattle.tl_token.proofs.TagWhole.{gap_between, unquoted_read}
 use Rattle.tl_token.proofs.TagWhole.{value_ends, named_read, tag_name_ends, letter_no_slash}
@@ -131,7 +131,7 @@ pub unquoted_stops : (t : Tag) (n old : List ℕ) → begins is_space old ≡ fa
     → (begins is_value_character old ≡ false) ⊎ (begins (λ c. is_space c || c ∈ ">") (past is_value_character old) ≡ false)
     → read (before_value t n) old ≡ stop (past is_value_character old)
 unquoted_stops t n old s q (inl v) = no_value_start t n old s q v ∙ ap stop (sym (past_none is_value_character old v))
-unquoted_stops t n old s q (inr k) = elim (cases_bool (begins is_value_character old)) [
+unquoted_stops t n old s q (inr k) = elim (cases_Bool (begins is_value_character old)) [
   | inl v ↦ value_run t n old v ∙ no_value_end t n (run is_value_character old) (past is_value_character old)
       (past_ended is_value_character old) k
   | inr v ↦ no_value_start t n old s q v ∙ ap stop (sym (past_none is_value_character old v))
@@ -140,7 +140,7 @@ unquoted_stops t n old s q (inr k) = elim (cases_bool (begins is_value_character
 -- after an attribute without a value, what is neither a character of a name nor white space
 without_value : (t : Tag) (c : ℕ) (cs : List ℕ) → is_name_character c ≡ false → is_space c ≡ false
     → read (if c ∈ "/" then between t else if c ∈ ">" then ended t else failed) cs ≡ read (between t) (c ∷ cs)
-without_value t c cs k s = elim (cases_bool (c ∈ "/")) [
+without_value t c cs k s = elim (cases_Bool (c ∈ "/")) [
   | inl d ↦ took (c ∈ "/") _ _ cs d ∙ sym (gap_between t c cs (or_right (is_space c) (c ∈ "/") d))
   | inr d ↦
       let none : is_gap c ≡ false = ap (λ b. b || (c ∈ "/")) s ∙ d in
@@ -154,7 +154,7 @@ without_value t c cs k s = elim (cases_bool (c ∈ "/")) [
 no_equals : (t : Tag) (n cs : List ℕ) → begins is_space cs ≡ false → begins (λ c. c ∈ "=") cs ≡ false
     → read (after_name t n) cs ≡ read (between (with_attribute t n [])) cs
 no_equals t n [] s q = refl
-no_equals t n (c ∷ cs) s q = left (is_space c) _ _ cs s ∙ left (c ∈ "=") _ _ cs q ∙ elim (cases_bool (is_name_character c)) [
+no_equals t n (c ∷ cs) s q = left (is_space c) _ _ cs s ∙ left (c ∈ "=") _ _ cs q ∙ elim (cases_Bool (is_name_character c)) [
   | inl k ↦ took (is_name_character c) _ _ cs k ∙ sym (took (is_name_character c) _ _ cs k)
   | inr k ↦ left (is_name_character c) _ _ cs k ∙ without_value (with_attribute t n []) c cs k s
 ]

@@ -1,7 +1,7 @@
 -- A tag of the grammar is what the states read.
 use Rattle.std.proofs.Common.{◌≡◌, ◌≢◌, ℕ, Bool, true, false, not, ◌||◌, List, [], ◌∷◌, ◌++◌, refl, sym, ap, ◌∙◌, subst, inl, inr}
 use Rattle.std.proofs.Common.{eqb, cond, append_assoc}
-use Rattle.std.proofs.lemmas.Bool.{eq-eqb, false≢true}
+use Rattle.std.proofs.lemmas.Bool.{eq-eqb, false≢true, not-true, not_from_true}
 use Rattle.std.proofs.lemmas.List.{append-nil}
 use Rattle.std.proofs.Common.{arith}
 use Rattle.std.proofs.lemmas.Bool.Decides.{nat_tests}
@@ -14,13 +14,13 @@ use Rattle.tl_token.specs.Grammar.{IsTag}
 use Rattle.tl_token.specs.inner.States.{TagState, tag_open, tag_name, between, in_name, after_name, before_value, in_quotes}
 use Rattle.tl_token.specs.inner.States.{in_value, empty_tag}
 use Rattle.tl_token.specs.inner.States.{with_attribute, reads, read}
-use Rattle.tl_token.proofs.CharacterTests.{or_left, or_cases, or_false, not_true, not_false, is_it, is_either, push_regroup}
+use Rattle.tl_token.proofs.CharacterTests.{or_left, or_cases, or_false, is_it, is_either, push_regroup}
 use Rattle.tl_token.proofs.CharacterTests.{clash, excludes}
 use Rattle.tl_token.specs.inner.States.{with_more}
 
 -- tests of one character that exclude each other
 pub space_no_name : (c : ℕ) → is_space c ≡ true → is_name_character c ≡ false
-space_no_name c h = not_false (is_space c || c ∈ "/>=\"'<") (or_left (is_space c) (c ∈ "/>=\"'<") h)
+space_no_name c h = not_from_true (is_space c || c ∈ "/>=\"'<") (or_left (is_space c) (c ∈ "/>=\"'<") h)
 
 pub gap_no_name : (c : ℕ) → is_gap c ≡ true → is_name_character c ≡ false
 gap_no_name c h = elim (or_cases (is_space c) (c ∈ "/") h) [
@@ -29,7 +29,7 @@ gap_no_name c h = elim (or_cases (is_space c) (c ∈ "/") h) [
 ]
 
 name_no_space : (c : ℕ) → is_name_character c ≡ true → is_space c ≡ false
-name_no_space c h = (or_false (is_space c) (c ∈ "/>=\"'<") (not_true (is_space c || c ∈ "/>=\"'<") h)).0
+name_no_space c h = (or_false (is_space c) (c ∈ "/>=\"'<") (not-true (is_space c || c ∈ "/>=\"'<") h)).0
 
 name_no_equals : (c : ℕ) → is_name_character c ≡ true → (c ∈ "=") ≡ false
 name_no_equals c h = excludes is_name_character c 61 refl h
@@ -44,17 +44,17 @@ gap_no_letter c h = elim (or_cases (is_space c) (c ∈ "/") h) [
 ]
 
 value_no_space : (c : ℕ) → is_value_character c ≡ true → is_space c ≡ false
-value_no_space c h = (or_false (is_space c) (c ∈ "\"'=<>`") (not_true (is_space c || c ∈ "\"'=<>`") h)).0
+value_no_space c h = (or_false (is_space c) (c ∈ "\"'=<>`") (not-true (is_space c || c ∈ "\"'=<>`") h)).0
 
 value_no_quote : (c : ℕ) → is_value_character c ≡ true → (c ∈ "\"'") ≡ false
 value_no_quote c h =
-    let others = (or_false (is_space c) (c ∈ "\"'=<>`") (not_true (is_space c || c ∈ "\"'=<>`") h)).1 in
+    let others = (or_false (is_space c) (c ∈ "\"'=<>`") (not-true (is_space c || c ∈ "\"'=<>`") h)).1 in
     let (double, later) = or_false (eqb c 34) _ others in
     let (single, _) = or_false (eqb c 39) _ later in
     rw (double, single) refl
 
 pub space_no_value : (c : ℕ) → is_space c ≡ true → is_value_character c ≡ false
-space_no_value c h = not_false (is_space c || c ∈ "\"'=<>`") (or_left (is_space c) (c ∈ "\"'=<>`") h)
+space_no_value c h = not_from_true (is_space c || c ∈ "\"'=<>`") (or_left (is_space c) (c ∈ "\"'=<>`") h)
 
 -- the first or the second of two states, by a test
 pub took : (b : Bool) (s t : TagState) (cs : List ℕ) → b ≡ true → read (cond b s t) cs ≡ read s cs
@@ -87,7 +87,7 @@ pub in_quotes_run : (t : Tag) (n : List ℕ) (quote : ℕ) (m v cs : List ℕ) �
     → read (in_quotes t n quote m) (v ++ cs) ≡ read (in_quotes t n quote (m ++ v)) cs
 in_quotes_run t n quote m [] cs h = ap (λ x. read (in_quotes t n quote x) cs) (sym (append-nil m))
 in_quotes_run t n quote m (c ∷ v) cs h =
-    left (eqb c quote) _ _ (v ++ cs) (not_true (eqb c quote) (h.0)) ∙ in_quotes_run t n quote (m ++ c ∷ []) v cs (h.1)
+    left (eqb c quote) _ _ (v ++ cs) (not-true (eqb c quote) (h.0)) ∙ in_quotes_run t n quote (m ++ c ∷ []) v cs (h.1)
     ∙ ap (λ x. read (in_quotes t n quote x) cs) (push_regroup m v c)
 
 pub in_value_run : (t : Tag) (n m v cs : List ℕ) → Each is_value_character v →
@@ -212,7 +212,7 @@ valued_read t n following value later rest others (missing v l b) attributes =
     let P : List ℕ → Type 0 = λ x. read (in_name t n) following ≡ read (between (with_attribute t n x)) later in
     let Q : List ℕ → Type 0 = λ x. read (in_name t n) x ≡ read (between (with_attribute t n [])) later in
     subst P (sym v) (subst Q l (name_ends t n later rest others
-    (ap (begins is_name_character) l ∙ not_true (begins is_name_character following) b) attributes))
+    (ap (begins is_name_character) l ∙ not-true (begins is_name_character following) b) attributes))
 valued_read t n following value later rest others (quoted quote q before after b a v e) attributes =
     let opened = quote ∷ (value ++ (quote ∷ later)) in
     ap (read (in_name t n)) e ∙ to_equals t n before (after ++ opened)

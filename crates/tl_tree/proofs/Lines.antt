@@ -13,9 +13,9 @@ use Rattle.std.specs.Char.{encode_utf8, is_ascii_whitespace}
 use Rattle.std.proofs.lemmas.Str.{chars-nil}
 use Rattle.tl_base.proofs.Texts.{chars-push}
 use Rattle.std.specs.List.{AllByRecursion, list_all, list_any}
-use Rattle.std.proofs.lemmas.Bool.{false≢true, ltb-true, and_from}
+use Rattle.std.proofs.lemmas.Bool.{false≢true, ltb-true, and_from, not-true}
 use Rattle.std.proofs.lemmas.Bool.Decides.{nat_tests}
-use Rattle.std.proofs.lemmas.List.{append-nil}
+use Rattle.std.proofs.lemmas.List.{append-nil, map-id}
 use Rattle.std.proofs.lemmas.List.Elements.{All-from_recursion}
 use Rattle.std.proofs.lemmas.List.Sums.{sum_by-cons, sum_by-append}
 use Rattle.tl_base.specs.Text.{byte_count}
@@ -104,12 +104,8 @@ none_push test (d ∷ word) c h k = by_first (λ g. none_push test word c g k) (
 solid_of : (text : List ℕ) → (has_character text && not (list_any is_ascii_whitespace text)) ≡ true → IsSolid text
 solid_of text h = (
   ltb-true 0 (length text) (both-left (has_character text) _ h),
-  unnot (list_any is_ascii_whitespace text) (both-right (has_character text) _ h),
+  not-true (list_any is_ascii_whitespace text) (both-right (has_character text) _ h),
 )
-  where
-    unnot : (b : Bool) → not b ≡ true → b ≡ false
-    unnot false h = refl
-    unnot true h = absurd (false≢true h)
 
 spelt_whole : (atoms : List Atom) → list_all is_whole atoms ≡ true → AllByRecursion IsSpeltAtom atoms
 spelt_whole [] h = tt
@@ -185,16 +181,12 @@ solid_after true old new c utf8 valid is letter h = rw (chars-push old new c utf
     (none_push is_ascii_whitespace (chars old) c h letter)
 solid_after false old new c utf8 valid is letter h = rw is h
 
-map_same : (cs : List ℕ) → map (λ c. c) cs ≡ cs
-map_same [] = refl
-map_same (c ∷ cs) = ap (λ x. c ∷ x) (map_same cs)
-
 pub marks_push : (cs : List ℕ) (c : ℕ) (ms : Marks) → map character (cs ++ c ∷ []) ++ ms ≡ map character cs ++ (character c ∷ ms)
 marks_push [] c ms = refl
 marks_push (d ∷ cs) c ms = ap (λ x. character d ∷ x) (marks_push cs c ms)
 
 pub marks_all : (cs all : List ℕ) (ms : Marks) → map (λ c. c) cs ≡ all → map character cs ++ ms ≡ map character all ++ ms
-marks_all cs all ms h = ap (λ x. map character x ++ ms) (sym (map_same cs) ∙ h)
+marks_all cs all ms h = ap (λ x. map character x ++ ms) (sym (map-id cs) ∙ h)
 
 -- what reading a character leaves
 pub reads_letter : {E : Type 0} (r : Result (Unit {0}) E) (old new : Line) (c : ℕ) → new.atoms ≡ old.atoms

@@ -5,8 +5,10 @@ use Rattle.std.proofs.Common.{ap, ◌∙◌, subst, inl, inr, cond, arith, drop}
 use Rattle.std.specs.List.{AllByRecursion, list_any}
 use Rattle.std.proofs.lemmas.Int.{clamps}
 use Rattle.std.proofs.lemmas.List.Sums.{sum_by-cons}
+use Rattle.std.proofs.lemmas.Bool.{not-true}
 use lib.Utf8.{scalar}
 use Rattle.tl_base.specs.declared.limits.TheConstants.{MAX_FILE_BYTES, MAX_COLSPAN, MAX_ROWSPAN, MAX_PAGE_WIDTH}
+use Rattle.tl_base.proofs.Options.{Some-same}
 use Rattle.tl_token.specs.Characters.{◌∈◌, is_control, begins}
 use Rattle.tl_token.specs.Numbers.{number, columns_spanned, rows_spanned, floor_of}
 use Rattle.tl_token.specs.Elements.{Attribute, Tag, tag_token, span_numbers}
@@ -23,25 +25,18 @@ use Rattle.tl_token.specs.declared.token.Spans.{Spans}
 use Rattle.tl_token.specs.declared.token.Token.{Token}
 use Rattle.tl_token.specs.declared.token.TokenKind.{TokenKind}
 use Rattle.tl_token.specs.declared.token.TokenKind.TheVariants.{Start, End, Text}
-use Rattle.tl_token.proofs.CharacterTests.{chosen, not_true}
+use Rattle.tl_token.proofs.CharacterTests.{chosen}
 use Rattle.tl_text.proofs.ClusterLemmas.{both-right}
 use Rattle.tl_tree.specs.Tags.{kinds, class_of, kind_of_start, kind_of_end}
 use Rattle.tl_tree.specs.Readable.{IsReadable, AreReadable, kind_size}
-
-some_is : {A : Type 0} (a b : A) → Some a ≡ Some b → a ≡ b
-some_is {A = A} a b h = ap (λ o. value o) h
-  where
-    value : Option A → A
-    value None = a
-    value (Some x) = x
 
 -- a character by its number is no control character
 numbered_plain : (n d : ℕ) → numbered_character n ≡ Some d → is_control d ≡ false
 numbered_plain n d h = elim (chosen (λ (o : Option ℕ). o ≡ Some d) (scalar n && not (is_control n)) (Some n) None h) [
   | inl e ↦
-      let same = some_is n d (e.1) in
+      let same = Some-same (e.1) in
       let P : ℕ → Type 0 = λ x. is_control x ≡ false in
-      subst P same (not_true (is_control n) (both-right (scalar n) (not (is_control n)) (e.0)))
+      subst P same (not-true (is_control n) (both-right (scalar n) (not (is_control n)) (e.0)))
   | inr e ↦ let never = e.1 in cc
 ]
 
@@ -168,7 +163,7 @@ piece_readable cs rest _ first past later (markup e t k known kind) fine =
 piece_readable _ rest _ first past later (by_reference {c = c} {d = d} {cs = cs} a h) fine =
     character_readable d first past later (reference_plain cs d rest h) fine
 piece_readable _ rest _ first past later (plain {c = c} k) fine =
-    character_readable c first past later (not_true (is_control c) (k.0)) fine
+    character_readable c first past later (not-true (is_control c) (k.0)) fine
 
 -- the tokens of pieces that lead somewhere
 parts_readable : (size : ℕ) (cs rest : List ℕ) (parts : List Part) → Leads size cs parts rest → AllReadable (tokens_of parts)

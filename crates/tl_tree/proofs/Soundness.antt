@@ -7,6 +7,7 @@ use Rattle.std.specs.Char.{is_ascii_whitespace}
 use Rattle.std.specs.List.{AllByRecursion, list_all, list_any}
 use Rattle.std.proofs.lemmas.Bool.{and_from}
 use Rattle.tl_base.specs.declared.limits.TheConstants.{MAX_FILE_BYTES, MAX_COLSPAN, MAX_DECLARED_COLUMNS, MAX_DEPTH}
+use Rattle.tl_base.proofs.Members.{AllByRecursion-append, AllByRecursion-suffix}
 use Rattle.tl_token.specs.Characters.{is_control}
 use Rattle.tl_token.specs.declared.token.Token.{Token}
 use Rattle.tl_text.specs.Words.{has_character}
@@ -14,7 +15,6 @@ use Rattle.tl_text.specs.Paragraph.{atom_size}
 use Rattle.tl_text.specs.declared.paragraph.Atom.{Atom}
 use Rattle.tl_text.specs.declared.paragraph.Atom.TheVariants.{Word, Break}
 use Rattle.tl_text.proofs.WordLemmas.{words_from, words_from-end}
-use Rattle.tl_text.proofs.Paragraphs.{all-append, all-suffix}
 use Rattle.tl_text.proofs.ClusterLemmas.{both-left, both-right}
 use Rattle.tl_tree.specs.Tags.{kinds}
 use Rattle.tl_tree.specs.Grammar as marks
@@ -75,17 +75,17 @@ plain_atoms n word (character c ∷ ms) solid plain fine =
         → AllByRecursion IsPlain (atoms_from [] [] ms) → AllByRecursion IsPlain (atoms_from [] word (character c ∷ ms))
     by_white false letter goes_on anew = rw (sym (read_letter [] word c ms letter)) (goes_on letter)
     by_white true white goes_on anew =
-        rw (sym (read_white [] word c ms white)) (all-append IsPlain (open_atoms word) (atoms_from [] [] ms)
+        rw (sym (read_white [] word c ms white)) (AllByRecursion-append IsPlain (open_atoms word) (atoms_from [] [] ms)
         (plain_open word solid plain) anew)
 plain_atoms n word (line_break ∷ ms) solid plain fine =
     let anew = plain_atoms n [] ms refl refl fine.1 in
-    let ended = all-append IsPlain (open_atoms word) (Break ∷ []) (plain_open word solid plain) ((refl, tt), tt) in
-    rw (sym (read_line_break [] word ms)) (all-append IsPlain (open_atoms word ++ Break ∷ []) (atoms_from [] [] ms) ended anew)
+    let ended = AllByRecursion-append IsPlain (open_atoms word) (Break ∷ []) (plain_open word solid plain) ((refl, tt), tt) in
+    rw (sym (read_line_break [] word ms)) (AllByRecursion-append IsPlain (open_atoms word ++ Break ∷ []) (atoms_from [] [] ms) ended anew)
 plain_atoms n word (m ∷ ms) solid plain fine = other_mark (plain_atoms n [] ms refl refl fine.1)
   where
     other_mark : AllByRecursion IsPlain (atoms_from [] [] ms) → AllByRecursion IsPlain (open_atoms word ++ after_breaks ms)
-    other_mark anew = all-append IsPlain (open_atoms word) (after_breaks ms) (plain_open word solid plain)
-        (all-suffix IsPlain (map Word (words_from [] (first_text ms))) (after_breaks ms) anew)
+    other_mark anew = AllByRecursion-append IsPlain (open_atoms word) (after_breaks ms) (plain_open word solid plain)
+        (AllByRecursion-suffix IsPlain (map Word (words_from [] (first_text ms))) (after_breaks ms) anew)
 
 all_whole : (atoms : List Atom) → AllByRecursion IsPlain atoms → list_all is_whole atoms ≡ true
 all_whole [] h = refl
@@ -126,7 +126,7 @@ module _ (n : ℕ) (few : n ≤ MAX_DECLARED_COLUMNS) where
       let plain = subst P (read_none (leading ms)) (plain_atoms n [] (leading ms) refl refl (leading_fine d ms fine)) in
       let a = leading_atoms_size (leading ms) in
       let b = later_size k ms in
-      all-append IsEntryInRange (paragraph_of (atoms_of (leading ms))) (entries_after k ms)
+      AllByRecursion-append IsEntryInRange (paragraph_of (atoms_of (leading ms))) (entries_after k ms)
       (paragraph_in_range (atoms_of (leading ms)) plain (omega arith)) later
 
   later_in_range : (k d : ℕ) (ms : Marks) → AreFineMarks n d ms → sum_by mark_size ms ≤ MAX_FILE_BYTES →

@@ -5,7 +5,7 @@ use Rattle.std.proofs.Common.{subst, inl, arith}
 use Rattle.std.specs.List.{AllZip, flat_map}
 use Rattle.std.proofs.lemmas.List.Concat.{flat_map-cons}
 use Rattle.tl_base.specs.declared.style.Style.{Style}
-use Rattle.tl_base.proofs.Members.{Contains-flat_map}
+use Rattle.tl_base.proofs.Members.{Contains-flat_map, first-same, rest-same}
 use Rattle.tl_base.specs.declared.chain.Chain.{Chain}
 use Rattle.tl_base.specs.declared.chain.Entry.{Entry}
 use Rattle.tl_table.specs.declared.cell.Table.{Table, out-Table}
@@ -22,12 +22,6 @@ use Rattle.tl_form.proofs.Truth.{nested_among}
 pub rest_same : {X : Type 0} (xs ys zs : List X) → xs ++ ys ≡ xs ++ zs → ys ≡ zs
 rest_same [] ys zs same = same
 rest_same (x ∷ xs) ys zs same = rest_same xs ys zs (let both : x ∷ (xs ++ ys) ≡ x ∷ (xs ++ zs) = same in cc)
-
-pub first_same : {X : Type 0} {x y : X} {xs ys : List X} → x ∷ xs ≡ y ∷ ys → x ≡ y
-first_same same = cc
-
-pub later_same : {X : Type 0} {x y : X} {xs ys : List X} → x ∷ xs ≡ y ∷ ys → xs ≡ ys
-later_same same = cc
 
 pub some_same : {X : Type 0} {o : Option X} {x y : X} → o ≡ Some x → o ≡ Some y → x ≡ y
 some_same one other = cc
@@ -129,12 +123,12 @@ module _ (style : Style) where
       let whole : chain.chain ∷ (flat_map (λ link. link.inner) chain.links ++ rest) ≡ also.chain ∷
       (flat_map (λ link. link.inner) also.links ++ left) =
       ap (λ xs. xs ++ rest) (sym chain.followed) ∙ split ∙ ap (λ xs. xs ++ left) also.followed in
-      let head : chain.chain ≡ also.chain = first_same whole in
+      let head : chain.chain ≡ also.chain = first-same _ _ _ _ whole in
       let links : chain.links ≡ also.links =
       links_one depth at so table sound chain.chain.entries chain.links also.links rest left chain.stand
       (subst (λ one. AllZip (λ entry link. IsLink (IsChainWithin at style) (out-Table table) entry link) one.entries also.links)
       (sym head) also.stand)
-      (later_same whole) in
+      (rest-same _ _ _ _ whole) in
       record {
         same = chain.followed ∙ (λ i. head i ∷ flat_map (λ link. link.inner) (links i)) ∙ sym also.followed;
         alike = chain.weighed ∙ ap (links_weight style (out-Table table).cols) links ∙ sym also.weighed;

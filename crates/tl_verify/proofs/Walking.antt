@@ -12,17 +12,16 @@ use Rattle.std.proofs.lemmas.List.Concat.{flat_map-cons}
 use Rattle.std.proofs.lemmas.List.Sums.{sum_by-cons, sum_by-append}
 use Rattle.tl_base.specs.declared.style.Style.{Style}
 use Rattle.tl_base.specs.Style.{gap_of, edge_of}
-use Rattle.tl_base.proofs.Members.{Contains-cases, Contains-flat_map, Contains-map, Contains-none}
+use Rattle.tl_base.proofs.Members.{Contains-cases, Contains-flat_map, Contains-map, Contains-none, first-same, rest-same}
 use Rattle.std.specs.declared.alloc.Global.{Global}
 use Rattle.std.specs.declared.boxed.Box.{Box}
-use Rattle.std.proofs.lemmas.Grind.{flat_map-append}
-use Rattle.std.proofs.lemmas.List.{take_more}
 use Rattle.tl_base.proofs.Zips.{AllZip-length}
 use Rattle.tl_table.specs.declared.cell.Content.{Content, out-Content}
 use Rattle.tl_table.specs.declared.cell.Content.TheOpen as open_content
 use Rattle.tl_grid.specs.Dropping.{IsPlaced}
 use Rattle.tl_base.specs.declared.chain.Chain.{Chain}
 use Rattle.tl_base.specs.declared.chain.Entry.{Entry}
+use Rattle.tl_base.proofs.Taken.{joined_more}
 use Rattle.tl_table.specs.declared.cell.Table.{Table, out-Table}
 use Rattle.tl_table.specs.declared.cell.TableCell.{TableCell, out-TableCell}
 use Rattle.tl_table.specs.Chains.{Link, AreSideBySide, HasWidth, IsLink, IsChainBy, IsChainWithin, IsChain, covered, links_weight}
@@ -37,7 +36,7 @@ use Rattle.tl_verify.specs.declared.chains.Row.{Row}
 use Rattle.tl_verify.specs.declared.chains.Walked.{Walked}
 use Rattle.tl_verify.specs.inner.Walks.{IsWalk, HasNoWalk, IsWalkIn, HasNoWalkIn, link_of, IsStep, HasNoStep, AreLinked}
 use Rattle.tl_verify.specs.inner.Walks.{link_widths, IsRow, HasNoRow}
-use Rattle.tl_verify.proofs.OneChain.{AreOne, any_chain_one, any_links_one, contains_at, any_step_one, first_same, later_same}
+use Rattle.tl_verify.proofs.OneChain.{AreOne, any_chain_one, any_links_one, contains_at, any_step_one}
 use Rattle.tl_verify.proofs.OneChain.{link_same, rest_same, some_same}
 
 -- ---- lists from a place on
@@ -152,12 +151,12 @@ module _ (style : Style) where
         let o = opened table own weight chain in
         let whole : first ∷ drop (at + 1) chains ≡ o.chain ∷ (flat_map (λ link. link.inner) o.links ++ rest) =
         sym (drop_at chains at first is) ∙ split ∙ ap (λ xs. xs ++ rest) o.followed in
-        let same : first ≡ o.chain = first_same whole in
+        let same : first ≡ o.chain = first-same _ _ _ _ whole in
         none o.links rest (record {
           stand = subst (λ one. AllZip (λ entry link. IsLink (Weighs style) (out-Table table) entry link) one.entries o.links)
               (sym same) o.stand;
           in_order = o.in_order;
-          split = later_same whole;
+          split = rest-same _ _ _ _ whole;
         }) (ap (λ one. one.table) same ∙ o.of_table) (subst (λ one. 0 < length one.entries) (sym same) o.has_entry)
         (omega (arith, o.weighed, light))
 
@@ -292,11 +291,7 @@ module _ (style : Style) where
       HasNoWalkIn style (past_tables blocks (i + 1)) number chains at most
   blocks_more blocks i number block chains at most within is none here =
       subst (λ tables. HasNoWalkIn style tables number chains at most)
-      (sym (ap (flat_map (λ one. tables_of (out-Content one)))
-      (take_more blocks i block within ∙ ap (λ one. take i blocks ++ one ∷ []) (sym is))
-      ∙ flat_map-append (λ one. tables_of (out-Content one)) (take i blocks) (block ∷ [])
-      ∙ ap (λ xs. past_tables blocks i ++ xs) (flat_map-cons (λ one. tables_of (out-Content one)) block [] ∙ append-nil
-      (tables_of (out-Content block)))))
+      (sym (joined_more (λ one. tables_of (out-Content one)) blocks i block block within is))
       (walk_more (past_tables blocks i) (tables_of (out-Content block)) number chains at most none here)
 
   pub in_block : (blocks : List Content) (i number : ℕ) (block : Content) (chains : List Chain) (at most : ℕ)

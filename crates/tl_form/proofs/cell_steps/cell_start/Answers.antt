@@ -3,7 +3,8 @@ use Rattle.tl_table.specs.declared.cell.Content.{out-Content}
 use Rattle.tl_table.specs.declared.cell.TableCell.{out-TableCell}
 use Rattle.tl_form.specs.inner.CellSteps.{HaveSteps, NeedsBy}
 use Rattle.std.proofs.lemmas.List.{take_all}
-use Rattle.tl_form.proofs.CellNeedLemmas.{StartSoFar, start-all, start-more, taken}
+use Rattle.tl_base.proofs.Taken.{taken_more}
+use Rattle.tl_form.proofs.CellNeedLemmas.{StartSoFar, start-all, start-more}
 use Rattle.tl_form.proofs.ProblemCells.{have-blocks}
 use Rattle.tl_table.proofs.SoundParts.{at_item}
 use Rattle.tl_table.specs.Tables.{tables_of}
@@ -24,7 +25,7 @@ loop-block-preserved c =
     let cell = out-TableCell c.args.cell.now in
     subst (StartSoFar needs cell.least (take (c.loop-block.block-index + 1) cell.blocks)) (sym c.max-start.ensures)
     (subst (λ blocks. StartSoFar needs cell.least blocks (max c.loop-block.start c.block_start.result))
-    (sym (taken cell.blocks c.loop-block.block-index c.block-item.result
+    (sym (taken_more cell.blocks c.loop-block.block-index c.block-item.result c.block-item.result
     (subst (λ items. c.loop-block.block-index < length items) c.as_slice-block-items.ensures c.loop-block-test.true)
     (subst (λ items. c.block-item.result ≡ get_or items c.loop-block.block-index c.block-item.result)
     c.as_slice-block-items.ensures c.block-item.is)))

@@ -3,9 +3,10 @@ use Rattle.tl_table.specs.declared.cell.Content.{out-Content}
 use Rattle.tl_table.specs.declared.cell.TableCell.{out-TableCell}
 use Rattle.tl_form.specs.inner.CellSteps.{HaveSteps, NeedsBy, bound_of}
 use Rattle.std.proofs.lemmas.List.{take_all}
+use Rattle.tl_base.proofs.Taken.{taken_more}
 use Rattle.tl_table.specs.Tables.{tables_of}
 use Rattle.tl_form.proofs.CellNeedLemmas.{StepsSoFar, block-at, cell-blocks, inner-functional, low-together, steps-all}
-use Rattle.tl_form.proofs.CellNeedLemmas.{steps-more, steps-none, taken}
+use Rattle.tl_form.proofs.CellNeedLemmas.{steps-more, steps-none}
 use Rattle.tl_form.proofs.ProblemCells.{have-blocks}
 use Rattle.tl_table.proofs.SoundParts.{at_item}
 use Rattle.tl_form.proofs.cell_steps.cell_steps.Goals as goal
@@ -68,7 +69,7 @@ loop-block-preserved c =
     let cell = out-TableCell c.args.cell.now in
     let start = c.cell_start-start.result in
     subst (λ blocks. StepsSoFar needs start c.args.page blocks c.in_ok-steps-2.steps)
-    (sym (taken cell.blocks c.loop-block.block-index c.block-item.result
+    (sym (taken_more cell.blocks c.loop-block.block-index c.block-item.result c.block-item.result
     (subst (λ items. c.loop-block.block-index < length items) c.as_slice-block-items.ensures c.loop-block-test.true)
     (subst (λ items. c.block-item.result ≡ get_or items c.loop-block.block-index c.block-item.result)
     c.as_slice-block-items.ensures c.block-item.is)))

@@ -1,12 +1,13 @@
 use Rattle.std.proofs.Common.{◌≡◌, ◌<◌, ◌≤◌, length, get_or, refl, subst, sym, ◌∙◌}
 use Rattle.std.specs.List.{AllByRecursion}
 use Rattle.std.proofs.lemmas.List.{take_all}
+use Rattle.tl_base.proofs.Taken.{AllByRecursion-taken}
 use Rattle.tl_table.specs.declared.cell.Content.{out-Content}
 use Rattle.tl_table.specs.declared.cell.TableCell.{out-TableCell}
 use Rattle.tl_table.specs.Tables.{tables_of}
 use Rattle.tl_form.specs.inner.CellSteps.{HaveSteps}
 use Rattle.tl_table.proofs.SoundParts.{at_item}
-use Rattle.tl_form.proofs.ProblemCells.{blocks-have, have-blocks, have-more}
+use Rattle.tl_form.proofs.ProblemCells.{blocks-have, have-blocks}
 use Rattle.tl_form.proofs.heights.cell_has_steps.Goals as goal
 
 pub returns-then-not-block_has_steps : goal.returns-then-not-block_has_steps
@@ -23,9 +24,9 @@ returns-then-not-block_has_steps c = (
 
 pub loop-block-preserved : goal.loop-block-preserved
 loop-block-preserved c =
-    have-more (λ block. HaveSteps c.args.inner.now (tables_of (out-Content block)))
+    AllByRecursion-taken (λ block. HaveSteps c.args.inner.now (tables_of (out-Content block)))
     (out-TableCell c.args.cell.now).blocks c.loop-block.block-index
-    c.block-item.result
+    c.block-item.result c.block-item.result
     (subst (λ items. c.loop-block.block-index < length items) c.as_slice-block-items.ensures c.loop-block-test.true)
     (subst (λ items. c.block-item.result ≡ get_or items c.loop-block.block-index c.block-item.result)
     c.as_slice-block-items.ensures c.block-item.is)

@@ -1,12 +1,13 @@
 use Rattle.std.proofs.Common.{◌≡◌, ◌<◌, ◌≤◌, length, get_or, refl, subst, sym, ◌∙◌}
 use Rattle.std.specs.List.{AllByRecursion}
 use Rattle.std.proofs.lemmas.List.{take_all}
+use Rattle.tl_base.proofs.Taken.{AllByRecursion-taken}
 use Rattle.tl_table.specs.declared.cell.Table.{out-Table}
 use Rattle.tl_table.specs.declared.cell.TableCell.{out-TableCell}
 use Rattle.tl_table.specs.Tables.{tables_in}
 use Rattle.tl_form.specs.inner.CellSteps.{HaveSteps}
 use Rattle.tl_table.proofs.SoundParts.{at_item}
-use Rattle.tl_form.proofs.ProblemCells.{each-have, have-each, have-more}
+use Rattle.tl_form.proofs.ProblemCells.{each-have, have-each}
 use Rattle.tl_form.proofs.heights.have_steps.Goals as goal
 
 pub returns-then-not-cell_has_steps : goal.returns-then-not-cell_has_steps
@@ -23,9 +24,9 @@ returns-then-not-cell_has_steps c = (
 
 pub loop-cell-preserved : goal.loop-cell-preserved
 loop-cell-preserved c =
-    have-more (λ cell. HaveSteps c.args.inner.now (tables_in (out-TableCell cell)))
+    AllByRecursion-taken (λ cell. HaveSteps c.args.inner.now (tables_in (out-TableCell cell)))
     (out-Table c.args.table.now).cells c.loop-cell.cell-index
-    c.cell-item.result
+    c.cell-item.result c.cell-item.result
     (subst (λ items. c.loop-cell.cell-index < length items) c.as_slice-cell-items.ensures c.loop-cell-test.true)
     (subst (λ items. c.cell-item.result ≡ get_or items c.loop-cell.cell-index c.cell-item.result)
     c.as_slice-cell-items.ensures c.cell-item.is)

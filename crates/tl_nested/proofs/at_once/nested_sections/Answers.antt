@@ -2,10 +2,10 @@ use Rattle.std.proofs.Common.{◌+◌, ◌-◌, ◌<◌, List, length, sym, subs
 use Rattle.std.specs.List.{All, AllZip}
 use Rattle.std.specs.List.Sorted.{IsPermutation}
 use Rattle.std.proofs.lemmas.List.Elements.{All-weaker}
+use Rattle.std.proofs.lemmas.Result.{IfOk-weaker}
 use Rattle.tl_cert.specs.declared.section.Section.{Section}
 use Rattle.tl_form.specs.Expected.{own_number}
 use Rattle.tl_form.specs.Subjects.{meant}
-use Rattle.tl_form.proofs.SubjectLemmas.{ok_weaker}
 use Rattle.tl_nested.specs.Solved.{GivesOutcome}
 use Rattle.tl_nested.specs.inner.Depths.{AreDepths, IsAtDepth, depth_of}
 use Rattle.tl_nested.specs.inner.Found.{AreTold, IsFoundFor, IsFoundOn}
@@ -47,6 +47,6 @@ returns g c =
     let all = All-weaker (λ section. IsFoundOn given document c.args.budget told section
     × ((c.greatest-most.result - c.loop-up.up) < depth_of (own_number document) depths section.table))
     (IsFoundOn given document c.args.budget told) (λ section both. both.0) told c.loop-up.invariant in
-    ok_weaker c.sorted.result (IsPermutation told)
+    IfOk-weaker c.sorted.result (IsPermutation told)
     (λ (found : List Section). All (IsFoundOn given document c.args.budget found) found)
     (λ found same. found_permuted given document c.args.budget told found same all) c.sorted.ensures

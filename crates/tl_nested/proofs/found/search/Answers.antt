@@ -1,9 +1,9 @@
 use Rattle.std.proofs.Common.{◌≡◌, refl, sym, subst}
+use Rattle.std.proofs.lemmas.Result.{IfOk-weaker}
 use Rattle.tl_cert.specs.Text.{IsSectionWritable}
 use Rattle.tl_form.specs.Expected.{placed_width}
 use Rattle.tl_form.specs.Named.{IsPlacementAt}
 use Rattle.tl_form.specs.Subjects.{due_of, meant}
-use Rattle.tl_form.proofs.SubjectLemmas.{ok_weaker}
 use Rattle.tl_nested.specs.declared.found.Found.{Found}
 use Rattle.tl_nested.specs.Searched.{IsSearched}
 use Rattle.tl_nested.specs.Solved.{GivesOutcome}
@@ -19,7 +19,7 @@ returns-clause-searched g c =
     let both = solved_by g.F.Fn c.args.solve.now _ c.args.budget c.solve.result outcome c.requires.solves at.sound
     c.in_ok-outcome.was c.solve.ensures in
     let P : Found → Type 0 = λ found. IsSearched given (meant c.args.subject.now) c.args.budget c.args.before.now found.section in
-    ok_weaker c.found_of.result (λ found. found ≡ found_of (due_of c.args.due) outcome) P
+    IfOk-weaker c.found_of.result (λ found. found ≡ found_of (due_of c.args.due) outcome) P
     (λ found is. subst P (sym is)
     (searched c.args.subject.now c.requires.subject c.requires.wide c.args.before.now c.args.budget c.requires.good
     (due_of c.args.due) c.requires.next
@@ -32,7 +32,7 @@ returns-clause-placed g c =
     let both = solved_by g.F.Fn c.args.solve.now _ c.args.budget c.solve.result outcome c.requires.solves at.sound
     c.in_ok-outcome.was c.solve.ensures in
     let P : Found → Type 0 = λ found. IsPlacementAt (meant c.args.subject.now) c.args.before.now found.section found.placed in
-    ok_weaker c.found_of.result (λ found. found ≡ found_of (due_of c.args.due) outcome) P
+    IfOk-weaker c.found_of.result (λ found. found ≡ found_of (due_of c.args.due) outcome) P
     (λ found is. subst P (sym is)
     (placement c.args.subject.now c.requires.subject c.requires.wide c.args.before.now c.args.budget c.requires.good
     (due_of c.args.due) c.requires.next
@@ -45,7 +45,7 @@ returns-clause-width g c =
     let both = solved_by g.F.Fn c.args.solve.now _ c.args.budget c.solve.result outcome c.requires.solves at.sound
     c.in_ok-outcome.was c.solve.ensures in
     let P : Found → Type 0 = λ found. found.placed.width ≡ placed_width c.args.subject.now.style found.section in
-    ok_weaker c.found_of.result (λ found. found ≡ found_of (due_of c.args.due) outcome) P
+    IfOk-weaker c.found_of.result (λ found. found ≡ found_of (due_of c.args.due) outcome) P
     (λ found is. subst P (sym is)
     (placed_as c.args.subject.now c.requires.subject c.requires.wide c.args.before.now c.args.budget c.requires.good
     (due_of c.args.due) c.requires.next
@@ -58,7 +58,7 @@ returns-clause-writable g c =
     let both = solved_by g.F.Fn c.args.solve.now _ c.args.budget c.solve.result outcome c.requires.solves at.sound
     c.in_ok-outcome.was c.solve.ensures in
     let P : Found → Type 0 = λ found. IsSectionWritable found.section in
-    ok_weaker c.found_of.result (λ found. found ≡ found_of (due_of c.args.due) outcome) P
+    IfOk-weaker c.found_of.result (λ found. found ≡ found_of (due_of c.args.due) outcome) P
     (λ found is. subst P (sym is)
     (writable c.args.subject.now c.requires.subject c.requires.wide c.args.before.now c.args.budget c.requires.good
     (due_of c.args.due) c.requires.next

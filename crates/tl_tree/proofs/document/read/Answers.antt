@@ -1,6 +1,7 @@
 use Rattle.std.proofs.Common.{◌≡◌, ◌≤◌, ◌<◌, ℕ, ◌+◌, true, false, ◌∷◌, length, take, drop, inr, sym, ◌∙◌, subst, arith}
 use Rattle.std.proofs.Common.{alloc_error, sum_by}
 use Rattle.std.proofs.lemmas.List.{length-map, length-take-le}
+use Rattle.std.proofs.lemmas.Result.{IfOk-weaker}
 use Rattle.tl_base.specs.declared.limits.TheConstants.{MAX_FILE_BYTES}
 use Rattle.tl_base.specs.Returned.{IsMemoryOr}
 use Rattle.tl_tree.specs.Tags.{Kinds, kind_of, kinds, is_table_start}
@@ -10,7 +11,7 @@ use Rattle.tl_tree.specs.declared.error.TreeError.{TreeError}
 use Rattle.tl_tree.specs.declared.error.TreeError.TheVariants.{Memory}
 use Rattle.tl_tree.specs.declared.reading.Reading.{Reading}
 use Rattle.tl_tree.specs.inner.Documents.{HasReadTokens, stop_error}
-use Rattle.tl_tree.proofs.Readings.{tables_tag, if_ok, if_err}
+use Rattle.tl_tree.proofs.Readings.{tables_tag, if_err}
 use Rattle.tl_tree.proofs.Documents.{one_more_read, stopped, ended_refused, ended_tree, kinds_length, modest, few_tables}
 use Rattle.tl_tree.proofs.Documents.{at_token, with_token}
 use Rattle.tl_tree.proofs.Documents.{readable_parts, small_prefix, fresh, one_more_table, all_taken}
@@ -109,11 +110,11 @@ returns-clause-ok c =
     let P : Kinds → Type 0 = λ ks. HasReadTokens ks c.loop-index.tables c.loop-index.reading in
     let Q : Reading → Type 0 = λ r. HasReadTokens (kinds tokens) c.loop-index.tables r in
     let all = subst P (all_taken tokens c.loop-index.index c.loop-index-test.false) c.loop-index.invariant in
-    if_ok c.into_tree.result (λ node is. ended_tree tokens c.loop-index.tables node (subst Q is all)) c.into_tree.ensures.ok
+    IfOk-weaker c.into_tree.result _ _ (λ node is. ended_tree tokens c.loop-index.tables node (subst Q is all)) c.into_tree.ensures.ok
 
 pub returns-clause-within : goal.returns-clause-within
 returns-clause-within c =
     let tokens = c.args.tokens.now in
     let P : Kinds → Type 0 = λ ks. HasReadTokens ks c.loop-index.tables c.loop-index.reading in
     let all = subst P (all_taken tokens c.loop-index.index c.loop-index-test.false) c.loop-index.invariant in
-    if_ok c.into_tree.result (λ node is. all.within) c.into_tree.ensures.ok
+    IfOk-weaker c.into_tree.result _ _ (λ node is. all.within) c.into_tree.ensures.ok
