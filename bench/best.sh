@@ -1,7 +1,7 @@
 #!/usr/bin/env bash
 # How long the best-first search takes, as LLVM builds it. Proves and builds with `rt`, which has to be in
-# the path, a copy of the crates as they are committed, in which best_test.txt stands for the tests in
-# tl_astar_tests. Its tests time themselves: 20 drawn tables of 30 rows over six columns, which have to close with
+# the path, a copy of the crates as they are committed, and beside them a crate of the tests in
+# best_test.txt. They time themselves: 20 drawn tables of 30 rows over six columns, which have to close with
 # 2,000 cuts, and single cuts of 2,000 rows of 10 and of 6 columns, of 333 rows of 60 and of 40 rows of 32. Prints for
 # each table its cuts and the time of its search, and for each large problem the time of a search of one cut and that
 # of one cut more. Fails where a table takes more than 50 ms, or a cut more than the limits below, in microseconds.
@@ -10,17 +10,17 @@ top=$(cd "$(dirname "$0")/.." && pwd)
 copy=$(mktemp -d)
 trap 'rm -rf "$copy"' EXIT
 git -C "$top" archive HEAD crates crates.txt HANDLES | tar -x -C "$copy"
-cd "$copy/crates/tl_astar_tests"
-mkdir -p proofs/bench
-mv proofs/tests/drawn_row proofs/bench/drawn_row
-sed -i 's/proofs\.tests\.drawn_row/proofs.bench.drawn_row/; s/6 - l.column/l.cols - l.column/' proofs/bench/drawn_row/*.antt
-rm -rf src/tests.rt proofs/tests
+echo "best_bench: tl_astar tl_solve tl_problem tl_base" >>"$copy/crates.txt"
+mkdir -p "$copy/crates/best_bench/src" "$copy/crates/best_bench/proofs/bench"
+cd "$copy/crates/best_bench"
+cp -r ../tl_search_tests/proofs/problems/drawn_row proofs/bench/
+sed -i 's/tl_search_tests\.proofs\.problems/best_bench.proofs.bench/' proofs/bench/drawn_row/*.antt
 cp "$top/bench/best_test.txt" src/bench.rt
-sed -i 's/^mod tests;/mod bench;/' src/lib.rt
+printf '#![tactic(auto)]\n\n#[cfg(test)]\nmod bench;\n' >src/lib.rt
 rt test >"$copy/log" 2>&1 || { cat "$copy/log"; exit 1; }
 {
-    ./out/tl_astar_tests_tests bench::twenty_tables
-    ./out/tl_astar_tests_tests bench::cuts_of_large_problems
+    ./out/best_bench_tests bench::twenty_tables
+    ./out/best_bench_tests bench::cuts_of_large_problems
 } | grep " us" | tee "$copy/log"
 awk '
     BEGIN {
