@@ -8,8 +8,6 @@ mod checks;
 mod columns;
 mod error;
 mod records;
-#[cfg(test)]
-mod tests;
 
 pub use columns::from_csv;
 pub use error::CsvError;

@@ -10,8 +10,6 @@ mod lists;
 mod names;
 mod numbers;
 mod options;
-#[cfg(test)]
-mod tests;
 mod values;
 
 pub use ask::Ask;

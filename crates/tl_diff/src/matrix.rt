@@ -149,6 +149,3 @@ impl Matrix {
         self.bounds.solve_least(out);
     }
 }
-
-#[cfg(test)]
-mod tests;

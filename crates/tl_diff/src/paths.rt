@@ -86,6 +86,3 @@ pub fn chain(alloc: Global, n: u32, arcs: &[Arc], out: &[u32]) -> Result<List<u3
     backward.reverse();
     Ok(List::from_vec(backward))
 }
-
-#[cfg(test)]
-mod tests;

@@ -4,7 +4,5 @@
 #![tactic(auto)]
 
 mod fan;
-#[cfg(test)]
-mod tests;
 
 pub use fan::{fan_out, gather, places};

@@ -18,6 +18,3 @@ mod table;
 pub use error::GridError;
 pub use forming::form;
 pub use shape::{Grid, Place, Shape, ShapeGroup, SpanOf};
-
-#[cfg(test)]
-mod tests;

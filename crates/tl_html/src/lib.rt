@@ -9,8 +9,6 @@ mod laws;
 mod paragraph;
 mod row;
 mod table;
-#[cfg(test)]
-mod tests;
 
 pub use laws::{a_fitting_layout_has_columns, page_reads_back};
 pub use table::html;

@@ -7,8 +7,6 @@
 mod certified;
 mod slim;
 mod slim_laws;
-#[cfg(test)]
-mod tests;
 mod trials;
 
 pub use certified::{certificate_of, narrow_certificate};

@@ -9,8 +9,6 @@ mod depths;
 mod found;
 mod make;
 mod searching;
-#[cfg(test)]
-mod tests;
 
 pub use make::{Make, laid_sections, sections};
 pub use searching::{LaidSections, problem_at, sections_by};

@@ -14,8 +14,6 @@ mod outcome;
 mod piece;
 mod plain;
 mod solver;
-#[cfg(test)]
-mod tests;
 mod trace_ending;
 mod zones;
 

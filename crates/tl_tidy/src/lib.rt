@@ -22,8 +22,6 @@ mod agree;
 mod choice;
 mod laws;
 mod look;
-#[cfg(test)]
-mod tests;
 mod walk;
 
 pub use agree::steps_agree;

@@ -17,6 +17,3 @@ mod token;
 pub use file::tokens;
 pub use markup::is_control;
 pub use token::{Element, Spans, Token, TokenError, TokenKind};
-
-#[cfg(test)]
-mod tests;

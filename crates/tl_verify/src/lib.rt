@@ -7,8 +7,6 @@ mod chains;
 mod claim;
 mod reject;
 mod sections;
-#[cfg(test)]
-mod tests;
 mod verdict;
 
 pub use reject::Reject;

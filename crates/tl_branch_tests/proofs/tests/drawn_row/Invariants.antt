@@ -1,5 +1,0 @@
-use Rattle.std.proofs.Common.{◌-◌}
-use Rattle.tl_branch_tests.proofs.tests.drawn_row.Given as goal
-
-abbrev pub decreases-loop-column : goal.decreases-loop-column
-decreases-loop-column l = l.cols - l.column

@@ -1,0 +1,242 @@
+//! Sections of drawn documents, counted by hand.
+
+ghost use Rattle.std.specs.Prelude.{◌≤◌};
+ghost use Rattle.tl_base.specs.declared.limits.TheConstants.{MAX_BUDGET, MAX_PAGE_WIDTH};
+
+use crate::documents::{MakePlain, Meeting, table_of};
+use std::alloc::{AllocError, Global};
+use std::process::Abort;
+use std::sync::atomic::{AtomicBool, AtomicU32, Ordering};
+use std::test::Fail;
+use std::thread::Threads;
+use tl_base::{Gate, NoGate, Style};
+use tl_cert::Section;
+use tl_nested::sections;
+use tl_table::least_width;
+
+/// A gate that writes down when the pieces 0 to 3 come, from 1 on.
+#[derive(Drop)]
+struct Arrivals {
+    count: AtomicU32,
+    times: [AtomicU32; 4],
+}
+
+impl Gate for Arrivals {
+    fn pass(&self, piece: u32) {
+        let now = self.count.fetch_add(1, Ordering::SeqCst);
+        self.times[(piece % 4) as usize].store(now.wrapping_add(1), Ordering::SeqCst);
+    }
+}
+
+/// A section as text: its table, width, height and lower bound, and the widths of its columns, as
+/// `1 12 2 2: 3 5;`.
+fn push_section(alloc: Global, line: &mut String, section: &Section) -> Result<(), AllocError> {
+    let (number, width) = (section.table, section.width);
+    let (height, lower) = (section.height, section.lower);
+    line.push_str(format!(in alloc; "{number} {width} {height} {lower}:")?.as_str())?;
+    for each in section.widths.as_slice() {
+        line.push_str(format!(in alloc; " {each}")?.as_str())?;
+    }
+    line.push(';')
+}
+
+/// The sections of a file on a page in style plain, as text. Each is searched once.
+fn sections_of<G: Gate>(
+    rt: &(impl Abort + Threads + Sync),
+    alloc: Global,
+    file: &str,
+    width: u32,
+    budget: u32,
+    workers: u32,
+    gate: &G,
+) -> Result<String, Fail>
+    requires page { width ≤ MAX_PAGE_WIDTH }
+    requires cuts { budget ≤ MAX_BUDGET }
+    requires workers { 1 ≤ workers }
+{
+    let table = table_of(alloc, file)?;
+    let least = least_width(alloc, &table, Style::Plain)?;
+    if width < least {
+        return Err("no layout fits the page".into());
+    }
+    let style = Style::Plain;
+    let maker = MakePlain {
+        made: AtomicU32::new(0),
+    };
+    let found = sections(
+        rt, alloc, &table, style, width, budget, workers, &maker, gate,
+    )?;
+    assert_eq!(rt; maker.made.load(Ordering::SeqCst) as usize, found.len());
+    let mut line = String::new(alloc);
+    for section in found.as_slice() {
+        push_section(alloc, &mut line, section)?;
+    }
+    Ok(line)
+}
+
+/// Compares the sections of a file by 1, 2 and 16 workers with those that are wanted.
+fn compare(
+    rt: &(impl Abort + Threads + Sync),
+    alloc: Global,
+    file: &str,
+    width: u32,
+    budget: u32,
+    wanted: &str,
+) -> Result<(), Fail>
+    requires page { width ≤ MAX_PAGE_WIDTH }
+    requires cuts { budget ≤ MAX_BUDGET }
+{
+    let found = sections_of(rt, alloc, file, width, budget, 1, &NoGate)?;
+    assert_eq!(rt; found.as_str(), wanted);
+    let found = sections_of(rt, alloc, file, width, budget, 2, &NoGate)?;
+    assert_eq!(rt; found.as_str(), wanted);
+    let found = sections_of(rt, alloc, file, width, budget, 16, &NoGate)?;
+    assert_eq!(rt; found.as_str(), wanted);
+    Ok(())
+}
+
+/// A table of two columns: it takes 10 columns and 2 lines, or 7 and 3.
+const PAIR: &str = "<table><tr><td>aaa bbb</td><td>cc dd ee</td></tr></table>";
+
+/// `PAIR` in a cell of its own.
+const NESTED: &str =
+    "<table><tr><td><table><tr><td>aaa bbb</td><td>cc dd ee</td></tr></table></table>";
+
+/// Two nested tables, side by side.
+const BESIDE: &str =
+    "<table><tr><td><table><tr><td>aa bb</table><td><table><tr><td>cc dd</table></table>";
+
+/// A table in a table in a table.
+const DEEP: &str = "<table><tr><td><table><tr><td><table><tr><td>a bb</table></table></table>";
+
+/// A table with two nested tables, in the first of which there is a third.
+const FORKED: &str =
+    "<table><tr><td><table><tr><td><table><tr><td>a</table></table><td><table><tr><td>b</table></table>";
+
+/// A table in a table, and so on, eight in all.
+const DEEPEST: &str = "<table><tr><td><table><tr><td><table><tr><td><table><tr><td>\
+     <table><tr><td><table><tr><td><table><tr><td><table><tr><td>a bb\
+     </table></table></table></table></table></table></table></table>";
+
+const DEEPEST_SECTIONS: &str =
+    "7 5 1 1: 4;7 3 2 2: 2;6 5 1 1: 4;6 3 2 2: 2;5 5 1 1: 4;5 3 2 2: 2;4 5 1 1: 4;4 3 2 2: 2;\
+     3 5 1 1: 4;3 3 2 2: 2;2 5 1 1: 4;2 3 2 2: 2;1 5 1 1: 4;1 3 2 2: 2;0 5 1 1: 4;";
+
+#[test]
+fn a_table_alone_has_one_section(rt: HostRuntime) -> Result<(), Fail> {
+    compare(&rt, rt.alloc(), PAIR, 12, 100, "0 12 2 2: 3 5;")
+}
+
+#[test]
+fn a_nested_table_has_a_section_for_each_narrower_placement(rt: HostRuntime) -> Result<(), Fail> {
+    compare(
+        &rt,
+        rt.alloc(),
+        NESTED,
+        12,
+        100,
+        "1 12 2 2: 3 5;1 9 3 3: 3 2;0 12 2 2: 10;",
+    )
+}
+
+#[test]
+fn on_a_narrow_page_a_nested_table_has_fewer_sections(rt: HostRuntime) -> Result<(), Fail> {
+    compare(&rt, rt.alloc(), NESTED, 9, 100, "1 9 3 3: 3 2;0 9 3 3: 7;")
+}
+
+#[test]
+fn at_the_least_width_each_table_has_one_section(rt: HostRuntime) -> Result<(), Fail> {
+    compare(&rt, rt.alloc(), NESTED, 7, 100, "1 7 3 3: 3 2;0 7 3 3: 7;")
+}
+
+#[test]
+fn without_cuts_a_height_found_is_no_lower_bound(rt: HostRuntime) -> Result<(), Fail> {
+    compare(&rt, rt.alloc(), NESTED, 12, 0, "1 12 3 2: 3 2;0 12 3 2: 7;")
+}
+
+#[test]
+fn tables_side_by_side_come_from_the_greatest_number_down(rt: HostRuntime) -> Result<(), Fail> {
+    let wanted = "2 12 1 1: 5;2 4 2 2: 2;1 12 1 1: 5;1 4 2 2: 2;0 12 1 1: 5 5;";
+    compare(&rt, rt.alloc(), BESIDE, 12, 100, wanted)
+}
+
+#[test]
+fn three_tables_inside_one_another_are_searched_from_the_inside(
+    rt: HostRuntime,
+) -> Result<(), Fail> {
+    let wanted = "2 5 1 1: 4;2 3 2 2: 2;1 5 1 1: 4;1 3 2 2: 2;0 5 1 1: 4;";
+    compare(&rt, rt.alloc(), DEEP, 5, 100, wanted)
+}
+
+#[test]
+fn tables_side_by_side_on_a_narrower_page(rt: HostRuntime) -> Result<(), Fail> {
+    let wanted = "2 11 1 1: 5;2 4 2 2: 2;1 11 1 1: 5;1 4 2 2: 2;0 11 2 2: 2 2;";
+    compare(&rt, rt.alloc(), BESIDE, 11, 100, wanted)
+}
+
+#[test]
+fn fan_out_sections(rt: HostRuntime) -> Result<(), Fail> {
+    let gate = Meeting {
+        flags: [AtomicBool::new(false), AtomicBool::new(false)],
+        seen: [AtomicBool::new(false), AtomicBool::new(false)],
+    };
+    let found = sections_of(&rt, rt.alloc(), BESIDE, 12, 100, 2, &gate)?;
+    let wanted = "2 12 1 1: 5;2 4 2 2: 2;1 12 1 1: 5;1 4 2 2: 2;0 12 1 1: 5 5;";
+    assert_eq!(&rt; found.as_str(), wanted);
+    assert!(&rt; gate.seen[0].load(Ordering::SeqCst));
+    assert!(&rt; gate.seen[1].load(Ordering::SeqCst));
+    Ok(())
+}
+
+#[test]
+fn the_deepest_tables_come_first_and_each_once(rt: HostRuntime) -> Result<(), Fail> {
+    let gate = Arrivals {
+        count: AtomicU32::new(0),
+        times: [
+            AtomicU32::new(0),
+            AtomicU32::new(0),
+            AtomicU32::new(0),
+            AtomicU32::new(0),
+        ],
+    };
+    sections_of(&rt, rt.alloc(), FORKED, 20, 100, 1, &gate)?;
+    assert_eq!(&rt; gate.count.load(Ordering::SeqCst), 3);
+    assert_eq!(&rt; gate.times[2].load(Ordering::SeqCst), 1);
+    assert_eq!(&rt; gate.times[1].load(Ordering::SeqCst), 2);
+    assert_eq!(&rt; gate.times[3].load(Ordering::SeqCst), 3);
+    Ok(())
+}
+
+#[test]
+fn a_table_nested_eight_deep(rt: HostRuntime) -> Result<(), Fail> {
+    compare(&rt, rt.alloc(), DEEPEST, 5, 100, DEEPEST_SECTIONS)
+}
+
+/// A table of 199 rows, each with a table of its own.
+fn many(alloc: Global) -> Result<String, AllocError> {
+    let mut file = String::from_str(alloc, "<table>")?;
+    for _ in 0..199 {
+        file.push_str("<tr><td><table><tr><td>a</table>")?;
+    }
+    file.push_str("</table>")?;
+    Ok(file)
+}
+
+/// Their sections on a page of one column: one line each, and 199 in all.
+fn many_sections(alloc: Global) -> Result<String, AllocError> {
+    let mut line = String::new(alloc);
+    for number in (1..200u32).rev() {
+        line.push_str(format!(in alloc; "{number} 1 1 1: 1;")?.as_str())?;
+    }
+    line.push_str("0 1 199 199: 1;")?;
+    Ok(line)
+}
+
+#[test]
+fn two_hundred_tables_by_sixteen_workers(rt: HostRuntime) -> Result<(), Fail> {
+    let alloc = rt.alloc();
+    let file = many(alloc)?;
+    let found = sections_of(&rt, alloc, file.as_str(), 1, 100, 16, &NoGate)?;
+    assert_eq!(&rt; found.as_str(), many_sections(alloc)?.as_str());
+    Ok(())
+}

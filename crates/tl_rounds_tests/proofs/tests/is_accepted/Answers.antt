@@ -1,8 +1,0 @@
--- The checker stays reserved for the cuts of the trace.
-use Rattle.std.proofs.Common.{ℕ, length, subst}
-use Rattle.tl_check.specs.Checkers.{IsReserved}
-use Rattle.tl_rounds_tests.proofs.tests.is_accepted.Goals as goal
-
-pub log-requires-clause-reserved : goal.log-requires-clause-reserved
-log-requires-clause-reserved c = c.trace.ensures.stays (length c.args.outcome.now.trace)
-    (subst (λ (n : ℕ). IsReserved c.args.problem.now n c.in_ok-checker.checker) c.len-2.ensures c.in_ok-checker.ensures)
