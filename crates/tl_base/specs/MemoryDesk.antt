@@ -1,5 +1,5 @@
 -- What a desk in memory holds, and which of its calls are to fail.
-use Rattle.std.specs.Prelude.{◌≡◌, ◌-◌, ◌^◌, ℕ, List, find, Option, option_map, ◌==◌}
+use Rattle.std.specs.Prelude.{◌≡◌, ◌-◌, ◌^◌, ℕ, List, find, Option, None, IsSome, option_map, ◌==◌}
 use Rattle.std.specs.BTreeMap.{BTreeMap, get_by_text}
 use Rattle.std.specs.declared.alloc.Global.{Global}
 use Rattle.std.specs.declared.string.String.{String}
@@ -42,3 +42,7 @@ next_failure desk = option_map (λ fail. fail.bytes) (find (λ fail. fail.call =
 -- one more call was made, and the planned failures are as before
 abbrev pub CountsCall : MemoryDesk → MemoryDesk → Type 0
 CountsCall old new = (calls_made new ≡ next_up_to (2 ^ 32 - 1) (calls_made old)) × (planned_failures new ≡ planned_failures old)
+
+-- a load of this name failed: there is no such file, unless the call was to fail
+abbrev pub FailsToLoad : MemoryDesk → List ℕ → MemoryDesk → Type 0
+FailsToLoad old name new = (IsSome (files_of old name) → IsSome (next_failure old)) × CountsCall old new

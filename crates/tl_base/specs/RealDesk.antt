@@ -1,5 +1,6 @@
--- The counts of faults of the real desk.
-use Rattle.std.specs.Prelude.{ℕ}
+-- The counts of faults of the real desk, and what it shows of a load that failed.
+use Rattle.std.specs.Prelude.{ℕ, List}
+use Rattle.tl_base.specs.Desk.{Rose}
 use Rattle.tl_base.specs.declared.real_desk.RealDesk.{RealDesk}
 
 -- how many calls of `load` returned an error
@@ -9,3 +10,7 @@ load_faults_of desk = desk.load_faults
 -- how many calls of `store` and `say` returned an error
 abbrev pub write_faults_of : {R : Type 0} → RealDesk R → ℕ
 write_faults_of desk = desk.write_faults
+
+-- a load failed, of whichever name: the real desk does not show why
+abbrev pub FailsToLoad : {R : Type 0} → RealDesk R → List ℕ → RealDesk R → Type 0
+FailsToLoad old name new = Rose (load_faults_of old) (load_faults_of new)

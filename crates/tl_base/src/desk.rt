@@ -29,7 +29,8 @@ impl From<AllocError> for DeskFault {
 /// The one way to the outside: files by name, and what is printed on standard output. What a desk
 /// holds has two meanings that it tells or not: `files`, the bytes of each file, and `said`, the
 /// bytes printed. Two counts of faults, one of `load` and one of `store` and `say`, never fall and
-/// stay at 2<sup>64</sup> - 1 once there.
+/// stay at 2<sup>64</sup> - 1 once there. `fails_to_load` says of which name a `load` failed, between
+/// which desks: only by a `load` of that very name can it be known.
 pub trait Desk {
     ghost files: { Self → Option Files };
 
@@ -39,12 +40,15 @@ pub trait Desk {
 
     ghost write_faults: { Self → ℕ };
 
+    ghost fails_to_load: { Self → List ℕ → Self → Type 0 };
+
     /// The first `most + 1` bytes of the file `name`, or all where it has fewer: one byte more
     /// than `most` shows that the file is longer.
     fn load(&mut self, name: &str, most: u32) -> Result<List<u8>, DeskFault>
         ensures short { IfOk result (λ bytes. length bytes ≤ most + 1) }
         ensures read { IfOk result (λ bytes. IfSome (files self.old) (λ held. IsReadFrom held name.now most bytes)) }
         ensures failed { result ≡ Err Failed → Rose (load_faults self.old) (load_faults self.new) }
+        ensures failed_name { result ≡ Err Failed → fails_to_load self.old name.now self.new }
 
         // The counts never fall and rise in no call that succeeds, and nothing outside changes.
         ensures ok_count { OnOk result (load_faults self.new ≡ load_faults self.old) }

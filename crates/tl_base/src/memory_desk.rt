@@ -119,7 +119,7 @@ fn at_most(bytes: &[u8], count: u64) -> &[u8]
 }
 
 impl Desk for MemoryDesk {
-    ghost use Rattle.tl_base.specs.MemoryDesk.{files_of, said_of, load_faults_of, write_faults_of, next_failure, CountsCall};
+    ghost use Rattle.tl_base.specs.MemoryDesk.{files_of, said_of, load_faults_of, write_faults_of, next_failure, CountsCall, FailsToLoad};
 
     ghost files = { λ desk. Some (files_of desk) };
 
@@ -129,10 +129,13 @@ impl Desk for MemoryDesk {
 
     ghost write_faults = { write_faults_of };
 
+    ghost fails_to_load = { FailsToLoad };
+
     fn load(&mut self, name: &str, most: u32) -> Result<List<u8>, DeskFault>
         ensures short { IfOk result (λ bytes. length bytes ≤ most + 1) }
         ensures read { IfOk result (λ bytes. IsReadFrom (files_of self.old) name.now most bytes) }
         ensures failed { result ≡ Err Failed → Rose (load_faults_of self.old) (load_faults_of self.new) }
+        ensures failed_name { result ≡ Err Failed → FailsToLoad self.old name.now self.new }
 
         ensures ok_count { OnOk result (load_faults_of self.new ≡ load_faults_of self.old) }
         ensures load_count { load_faults_of self.old ≤ load_faults_of self.new }

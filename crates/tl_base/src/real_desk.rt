@@ -42,7 +42,7 @@ impl<R> RealDesk<R> {
 }
 
 impl<R: Files + Print + AllocGlobal> Desk for RealDesk<R> {
-    ghost use Rattle.tl_base.specs.RealDesk.{load_faults_of, write_faults_of};
+    ghost use Rattle.tl_base.specs.RealDesk.{load_faults_of, write_faults_of, FailsToLoad};
 
     ghost files = { λ _. None };
 
@@ -51,6 +51,8 @@ impl<R: Files + Print + AllocGlobal> Desk for RealDesk<R> {
     ghost load_faults = { load_faults_of };
 
     ghost write_faults = { write_faults_of };
+
+    ghost fails_to_load = { FailsToLoad };
 
     fn load(&mut self, name: &str, most: u32) -> Result<List<u8>, DeskFault> {
         let file = File::open(&self.runtime, name);
