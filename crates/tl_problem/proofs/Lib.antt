@@ -2,6 +2,7 @@ mod AreaExamples
 mod BoundExamples
 mod Examples
 mod PlacementExamples
+mod ShareExamples
 pub mod AreaFound
 pub mod AreaLaws
 pub mod AreaSteps
@@ -14,6 +15,8 @@ pub mod NeedLemmas
 pub mod OneClass
 pub mod Rectangles
 pub mod SetLaws
+pub mod ShareLaws
+pub mod SharedSums
 pub mod Soundness
 pub mod SpanLaws
 pub mod SpanningLemmas

@@ -6,6 +6,7 @@ use Rattle.std.specs.List.{All, AllPairs, sum_by}
 use Rattle.std.proofs.lemmas.Bool.{cases_lt}
 use Rattle.std.proofs.lemmas.Bool.Decides.{nat_tests}
 use Rattle.std.proofs.lemmas.List.Sums.{sum_by-cons}
+use Rattle.tl_problem.specs.Shares.{inside}
 use Rattle.tl_base.proofs.Members.{AllPairs-head, AllPairs-tail}
 
 -- ---- sums
@@ -34,10 +35,6 @@ sum_by-split v a i d (x ∷ xs) =
       add_times a b d = grind arith
 
 -- ---- intervals of places
-
--- 1 where the place lies in the interval from `from` on and before `past`, else 0
-abbrev pub inside : ℕ → ℕ → ℕ → ℕ
-inside from past n = cond (nat_le from n && nat_lt n past) 1 0
 
 pub inside-yes : (from past n : ℕ) → from ≤ n → n < past → inside from past n ≡ 1
 inside-yes from past n after before = grind (arith, nat_tests)

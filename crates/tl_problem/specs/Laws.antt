@@ -10,6 +10,8 @@ use Rattle.tl_problem.specs.Zones.{range_at, IsZone, whole_zone, lower_part, upp
 use Rattle.tl_problem.specs.Agreement.{HasOneClass, AgreeIn}
 use Rattle.tl_problem.specs.Bounds.{IsBound}
 use Rattle.tl_problem.specs.Areas.{IsAreaBound}
+use Rattle.tl_problem.specs.declared.weighting.Weighting.{Weighting}
+use Rattle.tl_problem.specs.Shares.{IsShareBound, IsWeighting}
 use Rattle.tl_problem.specs.Placements.{AreLeast, IsPlacement}
 use Rattle.tl_problem.specs.Tight.{IsTightFrom, IsTight}
 
@@ -24,6 +26,18 @@ abbrev pub AreaBoundIsBelowLayouts : Type 0
 AreaBoundIsBelowLayouts = (problem : ProblemModel) → IsSound problem → (zone : List Range) (bound : ℕ) (widths heights : List ℕ) →
     IsAreaBound problem (InZone problem zone) bound →
     InZone problem zone widths → IsLayoutByLow problem widths heights → bound ≤ total_height problem heights
+
+-- no layout by `low` in a zone is lower than the zone's shared bound by a weighting
+abbrev pub ShareBoundIsBelowLayouts : Type 0
+ShareBoundIsBelowLayouts = (problem : ProblemModel) → IsSound problem → (weighting : Weighting) → IsWeighting problem weighting →
+    (zone : List Range) (bound : ℕ) (widths heights : List ℕ) → IsShareBound problem weighting (InZone problem zone) bound →
+    InZone problem zone widths → IsLayoutByLow problem widths heights → bound ≤ total_height problem heights
+
+-- a zone whose widths lie in another has no lower shared bound by the same weighting
+abbrev pub ShareBoundRises : Type 0
+ShareBoundRises = (problem : ProblemModel) (weighting : Weighting) (zone part : List Range) →
+    ((widths : List ℕ) → InZone problem part widths → InZone problem zone widths) → (low high : ℕ) →
+    IsShareBound problem weighting (InZone problem zone) low → IsShareBound problem weighting (InZone problem part) high → low ≤ high
 
 -- no placement in a zone is lower than the zone's bound
 abbrev pub BoundIsBelowPlacements : Type 0

@@ -1,6 +1,6 @@
 //! Laws of the definitions in this crate's specs. Each is the contract of a function that does nothing.
 ghost use Rattle.tl_problem.specs.Laws.{AreaBoundIsBelowLayouts, BoundIsBelowLayouts, BoundIsBelowPlacements};
-ghost use Rattle.tl_problem.specs.Laws.{CutsArePartitions, OneClassIsExact, TightOnce, TightRaisesNothing, WholeHasAll};
+ghost use Rattle.tl_problem.specs.Laws.{CutsArePartitions, OneClassIsExact, ShareBoundIsBelowLayouts, ShareBoundRises, TightOnce, TightRaisesNothing, WholeHasAll};
 
 /// No layout by `low` with widths in a zone is lower than the zone's bound.
 pub fn bound_is_below_layouts()
@@ -10,6 +10,16 @@ pub fn bound_is_below_layouts()
 /// No layout by `low` with widths in a zone is lower than the zone's area bound.
 pub fn area_bound_is_below_layouts()
     ensures { AreaBoundIsBelowLayouts }
+{}
+
+/// No layout by `low` with widths in a zone is lower than the zone's shared bound by a weighting.
+pub fn share_bound_is_below_layouts()
+    ensures { ShareBoundIsBelowLayouts }
+{}
+
+/// A zone whose widths lie in another has no lower shared bound by the same weighting.
+pub fn share_bound_rises()
+    ensures { ShareBoundRises }
 {}
 
 /// No placement with widths in a zone is lower than the zone's bound.

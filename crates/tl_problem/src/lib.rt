@@ -15,15 +15,18 @@ mod placing;
 mod problem;
 mod sound;
 mod spans;
+mod weighting;
 mod work;
 mod zone;
 
 pub use cell::{Cell, Span};
 pub use laws::{
     area_bound_is_below_layouts, bound_is_below_layouts, bound_is_below_placements,
-    cuts_are_partitions, one_class_is_exact, tight_once, tight_raises_nothing, whole_has_all,
+    cuts_are_partitions, one_class_is_exact, share_bound_is_below_layouts, share_bound_rises,
+    tight_once, tight_raises_nothing, whole_has_all,
 };
 pub use placed::{Outline, Placed};
 pub use problem::Problem;
+pub use weighting::{MAX_DIVISOR, MAX_MULTIPLIER, Weighting};
 pub use work::Work;
 pub use zone::{Range, Zone};

@@ -9,15 +9,8 @@ use Rattle.tl_problem.specs.declared.cell.Cell.{Cell}
 use Rattle.tl_base.specs.Sizes.{room}
 use Rattle.tl_problem.specs.Problem.{ProblemModel}
 use Rattle.tl_problem.specs.Sound.{IsSound}
+pub use Rattle.tl_problem.specs.Cells.{no_cell, cell_at}
 use Rattle.tl_problem.specs.inner.Axes.{start_of, end_of, count_on, gap_on, IsOrder}
-
--- what stands where there is no cell
-abbrev pub no_cell : Cell
-no_cell = record { left = 0; right = 0; top = 0; bottom = 0; low = []; high = [] }
-
--- the cell with this number
-abbrev pub cell_at : List Cell → ℕ → Cell
-cell_at cells k = get_or cells k no_cell
 
 -- sizes, one for each column or row, that give each cell at least the room that it demands
 pub record GiveDemands (problem : ProblemModel) (axis : Axis) (demands sizes : List ℕ) : Type 0 where
