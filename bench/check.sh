@@ -22,9 +22,9 @@ for name in nested columns; do cp "$here/../examples/$name.html" "$files/${name}
 
 # The milliseconds of processor time of the fastest of five runs of a command, and its status.
 measure() {
-    local took user system least= run
+    local took user system least=''
     local TIMEFORMAT='%3U %3S'
-    for run in 1 2 3 4 5; do
+    for _ in 1 2 3 4 5; do
         status=0
         took=$( { time "$@" >/dev/null 2>&1; } 2>&1 ) || status=$?
         read -r user system <<<"${took//./}"
@@ -52,13 +52,16 @@ for case in first:7 spans:9 nested_example:9 columns_example:12 word:6 demo:60 c
     compare "${case%:*}" "${case#*:}"
 done
 
-# The milliseconds that a command takes longer than another, each with the status that is wanted.
+# The milliseconds that a command takes longer than another, each of words without white space, with the status that is
+# wanted.
 difference() {
-    local wanted=$1 than=$2 longer
-    measure $3
+    local wanted=$1 than=$2 longer words
+    read -ra words <<<"$3"
+    measure "${words[@]}"
     longer=$milliseconds
     if [ "$status" != "$wanted" ]; then failed=1; fi
-    measure $4
+    read -ra words <<<"$4"
+    measure "${words[@]}"
     if [ "$status" != "$than" ]; then failed=1; fi
     milliseconds=$((longer - milliseconds))
 }

@@ -29,6 +29,14 @@ words() {
     }'
 }
 
+# A table of a kind and a size.
+table() {
+    case $1 in
+    rows) rows "$2" ;;
+    words) words "$2" ;;
+    esac
+}
+
 # Sets `milliseconds` to the processor time of the fastest of five runs of a page of so many columns of a file, and
 # `megabytes` to the peak of its memory.
 measure() {
@@ -51,7 +59,7 @@ grow() {
     local kind=$1 width=$2 size before='' times
     shift 2
     for size in "$@"; do
-        "$kind" "$size" >"$files/table.html"
+        table "$kind" "$size" >"$files/table.html"
         measure "$width" "$files/table.html"
         times='   '
         if [ -n "$before" ]; then

@@ -4,8 +4,8 @@
 # shellcheck disable=SC2034,SC2154
 
 program=$top/crates/tablelayout/out/tablelayout
-# shellcheck source=tools/building.bash
-. "$top/tools/building.bash"
+# shellcheck source=tools/building.sh
+. "$top/tools/building.sh"
 if ! is_built; then
     echo "$0: the program is missing or older than its sources; rt ci, or a command of ./tablelayout, builds it" >&2
     exit 1

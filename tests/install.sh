@@ -10,7 +10,7 @@ top=$(dirname "$(dirname "$(readlink -f "${BASH_SOURCE[0]}")")")
 checkout=${room:?}/checkout
 mkdir -p "$checkout/crates/tablelayout/out" "$checkout/tools"
 cp -p "$top/tablelayout" "$top/crates.txt" "$checkout"
-cp -p "$top/tools/building.bash" "$checkout/tools"
+cp -p "$top/tools/building.sh" "$checkout/tools"
 cp -pR "$top/command" "$top/integrations" "$checkout"
 cp -p "$program" "$checkout/crates/tablelayout/out"
 # Nothing is found that could prove and build.
@@ -49,7 +49,7 @@ PATH=$room/bin:$PATH
 cd "$room/tables" || exit 1
 echo '<table><tr><td>aaa bbb<td>cc dd ee</table>' >in.html
 printf '<table>\n<tr><td><img>' >refused.html
-tablelayout | head -n 1 | expect_text "Lays an HTML table out on a page of fixed-width text, as low as any layout can be." "without arguments"
+tablelayout | head -n 1 | expect_text "Lays an HTML table out on a page of fixed-width text, as low as any can be." "without arguments"
 all_of tablelayout show in.html --width 12 | expect_text $'aaa cc dd\nbbb ee   \nlowest height 2 width 9\nstatus 0' "by show"
 all_of tablelayout show <refused.html | expect_text $'bad input: unknown element at 16\nline 2, column 9:\n<tr><td><img>\n        ^\nstatus 5' "by show of a refusal"
 all_of tablelayout lay 12 in.html page.txt page.cert | expect_text $'lowest height 2 width 10\nstatus 0' "by lay"
@@ -110,5 +110,81 @@ cd "$to" || exit 1
 "a b/c/bin/tablelayout" show "$room/tables/in.html" --quiet --width 12 | expect_text $'aaa cc dd\nbbb ee   ' "below a relative PREFIX"
 "$checkout/tablelayout" uninstall "a b/c"
 names "$to" | expect_text "" "and left below DESTDIR"
+
+# A name may have line feeds.
+"$checkout/tablelayout" install $'a\nb/c\n'
+"$checkout/tablelayout" uninstall $'a\nb/c\n'
+names "$to" | expect_text "" "and left below a name with line feeds"
+
+# Nothing is made to remove what is not there.
+DESTDIR=$to/none all_of "$checkout/tablelayout" uninstall /usr/local | expect_text "tablelayout: it is not installed in /usr/local
+status 1" "by uninstall below no DESTDIR"
+names "$to" | expect_text "" "and made by it"
+
+# What cannot be done whole is not done. All that is in a folder, with the times of files, and what they hold:
+state() {
+    (cd "$1" && find . -type d -printf '%m %p\n' -o -printf '%m %T@ %p\n' -type f -exec cksum {} + | LC_ALL=C sort)
+}
+
+# Runs a command that has to fail, and leave all in a folder as it is.
+leaves() {
+    local folder=$1 status
+    shift
+    state "$folder" >"$room/before"
+    "$@" >"$room/told" 2>"$room/said"
+    status=$?
+    if [ "$status" = 0 ] || [ ! -s "$room/said" ]; then
+        echo "status $status, which it explains by: $(cat "$room/said")" | expect_text "a failure" "by $*"
+    fi
+    expect_text "" "on standard output by $*" <"$room/told"
+    state "$folder" | expect "$room/before" "and left by $*"
+}
+
+# Where a file stands for a folder, or a folder for a file; alone, and below DESTDIR.
+mkdir -p "$to/file" "$to/folder/share/man/man1/tablelayout.1"
+touch "$to/file/share"
+for at in file folder; do
+    leaves "$to" "$checkout/tablelayout" install "$to/$at"
+    leaves "$to" "$checkout/tablelayout" install "$to/file/share/none"
+    DESTDIR=$to leaves "$to" "$checkout/tablelayout" install "/$at"
+done
+rm -r "$to/file" "$to/folder"
+# Over another version, of which all stays, where the last of its places is a folder.
+"$checkout/tablelayout" install "$to/over"
+echo "another version" | tee "$to"/over/libexec/tablelayout/{show,place.awk} >"$to/over/bin/tablelayout"
+mkdir "$to/over/libexec/tablelayout/tl_program"
+leaves "$to" "$checkout/tablelayout" install "$to/over"
+leaves "$to" "$checkout/tablelayout" uninstall "$to/over"
+rmdir "$to/over/libexec/tablelayout/tl_program"
+# Where it is interrupted, as by a command that it runs.
+mkdir "$room/ends"
+cat >"$room/ends/install" <<'INSTALL'
+#!/bin/sh
+[ "${4%.lua.*}" = "$4" ] || kill "$PPID"
+exec /usr/bin/install "$@"
+INSTALL
+chmod +x "$room/ends/install"
+PATH=$room/ends:$PATH leaves "$to" "$checkout/tablelayout" install "$to/over"
+PATH=$room/ends:$PATH leaves "$to" "$checkout/tablelayout" install "$to/another/place"
+# Where a folder may not be written by who runs it.
+another=()
+if [ "$(id -u)" = 0 ]; then
+    another=(setpriv --reuid 65534 --regid 65534 --clear-groups)
+    chmod 711 "$room"
+fi
+if [ "$(id -u)" != 0 ] || command -v setpriv >/dev/null; then
+    [ ${#another[@]} = 0 ] || chown -R 65534:65534 "$to/over"
+    for folder in over/share/man/man1 over/libexec/tablelayout over/bin; do
+        chmod 555 "$to/$folder"
+        leaves "$to" "${another[@]}" "$checkout/tablelayout" install "$to/over"
+        leaves "$to" "${another[@]}" "$checkout/tablelayout" uninstall "$to/over"
+        chmod 755 "$to/$folder"
+    done
+    all_of "${another[@]}" "$checkout/tablelayout" install "$to/over" | expect_text "status 0" "once all may be written"
+else
+    skip "there is no setpriv, so no folder that may not be written is tried"
+fi
+"$checkout/tablelayout" uninstall "$to/over"
+names "$to" | expect_text "" "and left of what failed"
 
 [ ! -e "$failed" ]

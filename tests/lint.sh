@@ -1,5 +1,6 @@
 #!/usr/bin/env bash
-# Looks for mistakes in the scripts, in the filter for pandoc and in the manual page. If there are none it prints nothing, but for what is skipped.
+# Looks for mistakes in the scripts, in the filter for pandoc and in the manual page. If there are none it prints nothing,
+# but for what is skipped.
 set -uo pipefail
 cd "$(dirname "$(dirname "$(readlink -f "${BASH_SOURCE[0]}")")")" || exit 1
 failed=0
@@ -8,14 +9,35 @@ skip() {
     echo "$0: skipped: there is no $1, $2" >&2
 }
 
+# Every script of the repository, by its first line.
+shells=() pythons=() luas=()
+for file in tablelayout .ci/* bench/* command/* integrations/*/* tests/* tools/*; do
+    [ -f "$file" ] || continue
+    read -r first <"$file"
+    case $first in
+    '#!'*sh | '# shellcheck shell='*) shells+=("$file") ;;
+    '#!'*python3 | '"""'*) pythons+=("$file") ;;
+    '--'*) luas+=("$file") ;;
+    esac
+done
+
 if command -v shellcheck >/dev/null; then
-    shellcheck -x tablelayout command/show command/install .ci/run bench/real.sh tests/*.sh {command,tests,tools}/*.bash || failed=1
+    shellcheck -x "${shells[@]}" || failed=1
 else
-    skip shellcheck "so the scripts are not looked at"
+    skip shellcheck "so the scripts of shells are not looked at"
 fi
 
+# What is compiled stands in a folder of its own, which is removed.
+compiled=$(mktemp -d)
+trap 'rm -rf "$compiled"' EXIT
+PYTHONPYCACHEPREFIX=$compiled python3 -W error -m py_compile "${pythons[@]}" || failed=1
+if command -v pyflakes3 >/dev/null; then
+    pyflakes3 "${pythons[@]}" || failed=1
+else
+    skip pyflakes3 "so the scripts of Python are only compiled"
+fi
 if command -v luacheck >/dev/null; then
-    said=$(luacheck --no-color integrations/pandoc/tablelayout.lua bench/real.lua) || { echo "$said" && failed=1; }
+    said=$(luacheck --no-color "${luas[@]}") || { echo "$said" && failed=1; }
 else
     skip luacheck "so the filter for pandoc is not looked at"
 fi

@@ -129,7 +129,7 @@ def read_help(text):
     return {
         "command": set(re.findall(r"^  tablelayout (\w+) [A-Z\[]", text, re.M)),
         "option": dict(option_of(it.replace("|", " ").split()) for it in options),
-        "status": set(re.findall(r"(?:Status |\.\s)(\d+):", text)),
+        "status": set(re.findall(r"^ {2,3}(\d+)  ", text, re.M)),
     }
 
 

@@ -1,7 +1,7 @@
 #!/usr/bin/env python3
 """Proves and builds the libraries that a crate of this repository depends on, several side by side.
 
-    tools/prove_libraries.py NAME
+    tools/prove_libraries.py NAME [LOCK]
 
 `rt` locks a crate and all those below it while it works in a checkout. So each library is proved in a
 copy of its own, which has the libraries below it as links; what the copy keeps in out/ goes to the
@@ -9,8 +9,12 @@ checkout when it ends, so that a run that is stopped goes on from there. The lib
 chain of others waits for goes first, by its priority. Prints a line for each library as it begins, and
 one with its seconds as it ends, elapsed and of processors. Where one is not proved it prints the end of
 what `rt` said, and ends with 1.
+
+It waits until no other process builds in this checkout. LOCK is the descriptor by which the caller has
+the lock for that already.
 """
 import contextlib
+import fcntl
 import os
 import shutil
 import signal
@@ -21,6 +25,7 @@ from pathlib import Path
 
 TOP = Path(__file__).resolve().parent.parent
 COPIES = TOP / "out" / "proving"
+LOCK = TOP / "out" / "lock"
 PROCESSORS = len(os.sched_getaffinity(0))
 # More jobs for one library cost more processor seconds, and fewer leave processors idle where one library waits for
 # another.
@@ -105,6 +110,19 @@ def say(text):
     print(f"tablelayout: {text}", file=sys.stderr, flush=True)
 
 
+def lock():
+    """Waits until no other process builds in this checkout, and keeps others waiting while the file is open."""
+    LOCK.parent.mkdir(exist_ok=True)
+    LOCK.touch()
+    file = open(LOCK, encoding="utf-8")
+    try:
+        fcntl.flock(file, fcntl.LOCK_EX | fcntl.LOCK_NB)
+    except BlockingIOError:
+        say("another process builds the program in this checkout; this one waits for it")
+        fcntl.flock(file, fcntl.LOCK_EX)
+    return file
+
+
 def prioritize(running, length):
     """The library with the longest chain goes before all others."""
     first = max(running, key=lambda pid: length[running[pid].name])
@@ -148,9 +166,10 @@ def prove(target):
 
 if __name__ == "__main__":
     signal.signal(signal.SIGTERM, signal.default_int_handler)
-    shutil.rmtree(COPIES, ignore_errors=True)
-    COPIES.mkdir(parents=True)
     try:
-        sys.exit(prove(sys.argv[1]))
+        with contextlib.nullcontext() if sys.argv[2:] else lock():
+            shutil.rmtree(COPIES, ignore_errors=True)
+            COPIES.mkdir(parents=True)
+            sys.exit(prove(sys.argv[1]))
     except KeyboardInterrupt:
         sys.exit(130)

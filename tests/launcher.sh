@@ -1,0 +1,150 @@
+#!/usr/bin/env bash
+# Runs the launcher in checkouts in which `rt` only says what it is asked for, and makes a program that says its
+# arguments. If all is as it should be this prints nothing, but for what is skipped.
+set -uo pipefail
+top=$(dirname "$(dirname "$(readlink -f "${BASH_SOURCE[0]}")")")
+# shellcheck source=tests/common.bash
+. "$top/tests/common.bash"
+unset DESTDIR
+
+mkdir "${room:?}/bin"
+cat >"$room/bin/rt" <<'RT'
+#!/bin/sh
+echo "$1 ${PWD##*/}" >>"${0%/bin/rt}/asked"
+mkdir -p out/rlib
+sleep "${RT_SECONDS-0}"
+[ "$1" = lib ] || { printf '#!/bin/sh\necho "program $*"\n' >out/new && chmod +x out/new && mv out/new out/tablelayout; }
+[ "$1" != try ] || echo run=ended >&2
+RT
+chmod +x "$room/bin/rt"
+export PATH=$room/bin:$PATH
+
+# What is printed on standard output, and the status.
+told_by() {
+    "$@" 2>/dev/null
+    echo "status $?"
+}
+
+# What `rt` was asked for since this was called last, in any order.
+asked() {
+    touch "$room/asked"
+    LC_ALL=C sort "$room/asked"
+    rm "$room/asked"
+}
+
+# A checkout of three crates, a test crate beside them, and what is installed.
+make_checkout() {
+    checkout=$room/$1
+    mkdir -p "$checkout"/crates/{low,high,tablelayout,low_tests}/{src,specs,proofs}
+    cp -p "$top/tablelayout" "$checkout"
+    cp -pR "$top/tools" "$top/command" "$top/integrations" "$checkout"
+    printf 'low: thiserror\nhigh: low\nlow_tests: low\ntablelayout: high low\n' >"$checkout/crates.txt"
+    touch "$checkout"/crates/{low,high,tablelayout,low_tests}/{src,specs,proofs}/one.rt
+}
+readonly ALL=$'lib high\nlib low\nrun tablelayout'
+
+"$top/tablelayout" help | awk 'length > 79' | expect_text "" "lines of the help above 79 columns"
+for words in "" --help; do
+    # shellcheck disable=SC2086
+    "$top/tablelayout" $words | cmp - <("$top/tablelayout" help) || touch "$failed"
+done
+
+# What is no command line ends before anything is proved.
+make_checkout judged
+for words in lya lay "lay 9" "lay 9 in" "narrow 9 in" "tidy 9 in" "check 9 in" demo "demo 1 2" "preview 9" preview \
+    install "install a b" uninstall -h in.html; do
+    # shellcheck disable=SC2086
+    all_of "$checkout/tablelayout" $words | expect_text $'usage\nstatus 2' "by $words"
+done
+all_of "$checkout/tablelayout" install "" | expect_text $'usage\nstatus 2' "by install of no name"
+for words in lya help; do
+    "$checkout/tablelayout" $words >/dev/full 2>/dev/null
+    echo "status $?" | expect_text "status 8" "by $words on a full device"
+done
+mkdir "$room/occupied"
+touch "$room/occupied/share"
+told_by "$checkout/tablelayout" install "$room/occupied" | expect_text "status 1" "where a file stands for a folder"
+asked | expect_text "" "by rt for what is refused"
+[ ! -e "$checkout/out/proving" ] || touch "$failed"
+
+# What may be one is for the program.
+told_by "$checkout/tablelayout" lay 9 in page | expect_text $'program lay 9 in page\nstatus 0' "by lay"
+asked | expect_text "$ALL" "by rt for a first lay"
+for words in "lay 9 in page --style" "narrow 9 in page" "tidy 9 --in page" "check 9 in cert" "demo x"; do
+    # shellcheck disable=SC2086
+    all_of "$checkout/tablelayout" $words | expect_text "program $words"$'\nstatus 0' "by $words"
+done
+all_of "$checkout/tablelayout" preview 9 in --html | expect_text $'program lay 9 in /dev/stdout --html\nstatus 0' "by preview"
+(cd "$checkout" && sh tablelayout demo 1) | expect_text "program demo 1" "without a folder in its name"
+ln -s "$checkout/tablelayout" "$room/bin/linked"
+linked demo 1 | expect_text "program demo 1" "by a link"
+COLUMNS=7 "$checkout/tablelayout" show "" 2>&1 | expect_text "program lay 7  /dev/fd/3 --style compact" "by show with COLUMNS"
+asked | expect_text "" "by rt for a program that is built"
+
+# A program that is older than a source is not run, whatever became of the source; one of which only something else
+# changed is.
+is_proved_after() {
+    told_by "$checkout/tablelayout" demo 1 | expect_text $'program demo 1\nstatus 0' "after $1"
+    asked | expect_text "${2-$ALL}" "by rt after $1"
+}
+crates=$checkout/crates
+echo >>"$crates/low/proofs/one.rt"
+is_proved_after "an edit"
+echo >"$crates/low/specs/two.antt"
+is_proved_after "a new file"
+mkdir "$crates/high/src/inner"
+echo >"$crates/high/src/inner/three.rt"
+is_proved_after "a new folder"
+mv "$crates/high/src/inner/three.rt" "$crates/high/src"
+is_proved_after "a move" ""
+echo >>"$crates/high/src/three.rt"
+is_proved_after "an edit of what was moved"
+rm "$crates/high/src/three.rt"
+is_proved_after "a removal" ""
+mkdir "$crates/new" "$crates/new/src"
+echo >"$crates/new/src/lib.rt"
+is_proved_after "a new crate"
+cp "$crates/low/src/one.rt" "$crates/low/src/four.rt"
+touch -r "$crates/new/src/lib.rt" "$crates/low/src"
+is_proved_after "a new file in a folder of older time"
+echo >>"$checkout/crates.txt"
+is_proved_after "an edit of crates.txt"
+echo >>"$crates/low_tests/src/one.rt"
+is_proved_after "an edit of a test" ""
+echo >"$crates/low/README.md"
+is_proved_after "a new document" ""
+rm "$checkout/out/sources"
+is_proved_after "a loss of the list" ""
+touch "$crates/low/src/one.rt"
+rm "$checkout/out/sources"
+is_proved_after "an edit and a loss of the list"
+
+# Of two that begin at one time one builds, and the other waits and says so.
+export RT_SECONDS=0.2
+make_checkout twice
+for i in 1 2; do
+    "$checkout/tablelayout" demo $i >"$room/made_$i" 2>"$room/said_$i" &
+done
+wait
+cat "$room"/made_[12] | expect_text $'program demo 1\nprogram demo 2' "by two at one time"
+asked | expect_text "$ALL" "by rt for two at one time"
+readonly WAITS="tablelayout: another process builds the program in this checkout; this one waits for it"
+grep -hFx "$WAITS" "$room"/said_[12] | expect_text "$WAITS" "by the one that waits"
+
+# So do one that proves libraries alone, and one that installs.
+make_checkout beside
+"$checkout/tools/prove_libraries.py" tablelayout 2>"$room/said_1" &
+"$checkout/tablelayout" install "$room/beside_to" 2>"$room/said_2" &
+wait
+"$room/beside_to/bin/tablelayout" demo 2 | expect_text "program demo 2" "by what was installed"
+asked | expect_text $'lib high\nlib high\nlib low\nlib low\nrun tablelayout' "by rt for libraries and an install"
+grep -hFx "$WAITS" "$room"/said_[12] | expect_text "$WAITS" "by the one that waits"
+# What the program alone does starts no other process, and none of it waits for one that builds.
+PATH=$room/none /bin/sh "$room/beside_to/bin/tablelayout" demo 3 | expect_text "program demo 3" "with nothing in the path"
+if command -v flock >/dev/null; then
+    flock "$checkout/out/lock" "$checkout/tablelayout" demo 4 2>&1 | expect_text "program demo 4" "while another builds"
+else
+    skip "there is no flock, so no lock is held"
+fi
+
+[ ! -e "$failed" ]
