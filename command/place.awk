@@ -13,6 +13,15 @@ BEGIN {
     if (room < 20)
         room = 20
     before = place
+    # More bytes than characters of the widest terminal take.
+    NEAR = 4096
+    # Zero width spaces and joiners, marks of direction, and U+FEFF.
+    split("8203 8207 8234 8238 8288 8303 65279 65279", invisible)
+    split("768 879 1155 1161 1425 1469 8400 8447 65024 65039", combining)
+    split("4352 4447 11904 12350 12353 19903 19968 42191 44032 55203 63744 64255 65072 65135 65281 65376 65504 65510 " \
+        "127744 128591 128640 128767 129280 129535 131072 262141", wide)
+    # Three bytes of most of those that are wide.
+    MOST_WIDE = "(([\345-\351\353\354][\200-\277]|\343[\202-\277]|\344[\200-\266\270-\277]|\352[\260-\277]|\355[\200-\235])[\200-\277])+"
 }
 
 before <= length($0) {
@@ -31,11 +40,14 @@ END {
         print_place(NR + 1, "", 0)
 }
 
-# Prints the line of this number, and a mark under the byte that has `before` bytes of the line in front of it.
+# Prints the line of this number, and a mark under the byte that has `before` bytes of the line in front of it. Of a long
+# line the characters near that byte are enough.
 function print_place(line_number, line, before,    i, size, count, column, marked, code) {
     sub(/\r$/, "", line)
     marked = -1
-    for (i = 1; i <= length(line); i += size) {
+    i = first_near(line, before)
+    column = column_after(substr(line, 1, i - 1), 0)
+    for (; i <= length(line) && i <= before + NEAR; i += size) {
         size = size_at(line, i)
         code = code_at(line, i, size)
         count++
@@ -45,6 +57,11 @@ function print_place(line_number, line, before,    i, size, count, column, marke
             marked = column
         column += columns_of(code, column)
     }
+    if (i <= length(line)) {
+        # What follows has no room.
+        begins[++count] = column
+        column += room
+    }
     begins[count + 1] = column
     if (marked < 0)
         marked = column
@@ -52,11 +69,55 @@ function print_place(line_number, line, before,    i, size, count, column, marke
     print_window(count, marked)
 }
 
+# The first byte of a character near the byte that has `before` bytes in front of it: no more than three in a row go on
+# with a character.
+function first_near(line, before,    i, past) {
+    i = before - NEAR > 0 ? before - NEAR : 1
+    for (past = i + 3; i > 1 && i < past && int(number[substr(line, i, 1)] / 64) == 2;)
+        i++
+    return i
+}
+
+# The column after a text that begins at a column.
+function column_after(text, column,    parts, count, i) {
+    count = split(text, parts, "\t")
+    for (i = 1; i <= count; i++) {
+        if (i > 1)
+            column += columns_of(9, column)
+        column += columns_of_text(parts[i])
+    }
+    return column
+}
+
+# The columns of a text without tabs. The common characters are counted all at once, and a space left for each run of them,
+# which keeps apart what stands around it; only the others are read one by one.
+function columns_of_text(text,    length_before, columns, i, size) {
+    length_before = length(text)
+    columns = gsub(/[ -~]+/, " ", text)
+    columns += length_before - length(text)
+    if (text ~ /^ ?$/)
+        return columns
+    # From U+0080 on to U+02FF, and to U+047F, two bytes and one column.
+    length_before = length(text)
+    columns += (gsub(/([\302-\313\316-\321][\200-\277])+/, " ", text) + length_before - length(text)) / 2
+    # From U+3080 to U+4DBF, U+4E00 to U+9FFF, and U+AC00 to U+D77F, three bytes and two columns.
+    length_before = length(text)
+    columns += (gsub(MOST_WIDE, " ", text) + length_before - length(text)) / 3 * 2
+    for (i = 1; i <= length(text); i += size) {
+        size = size_at(text, i)
+        if (substr(text, i, 1) != " ")
+            columns += columns_of(code_at(text, i, size), 0)
+    }
+    return columns
+}
+
 # Prints the characters 1 to `count`, or those in the room around the column `marked`, and the mark.
 function print_window(count, marked,    from, past, text, indent, i) {
     past = begins[count + 1]
     if (past >= room && marked > room / 2)
         from = marked - int(room / 2)
+    if (from < begins[1])
+        from = begins[1]
     if (past > from + room)
         past = from + room
     indent = marked
@@ -95,17 +156,11 @@ function code_at(line, i, size,    code, j) {
 }
 
 # Whether a code point is in one of these ranges, which stand in order.
-function is_in(code, ranges,    bounds, count, i) {
-    count = split(ranges, bounds)
-    for (i = 1; i < count; i += 2)
-        if (code >= bounds[i] && code <= bounds[i + 1])
+function is_in(code, bounds,    i) {
+    for (i = 1; i in bounds && code >= bounds[i]; i += 2)
+        if (code <= bounds[i + 1])
             return 1
     return 0
-}
-
-# Zero width spaces and joiners, marks of direction, and U+FEFF.
-function is_invisible(code) {
-    return is_in(code, "8203 8207 8234 8238 8288 8303 65279 65279")
 }
 
 function is_control(code) {
@@ -117,7 +172,7 @@ function shown_as(code, character, column) {
         return substr("        ", 1, columns_of(code, column))
     if (is_control(code))
         return "?"
-    return code >= 768 && is_invisible(code) ? "" : character
+    return code >= 768 && is_in(code, invisible) ? "" : character
 }
 
 function columns_of(code, column) {
@@ -125,10 +180,7 @@ function columns_of(code, column) {
         return 8 - column % 8
     if (code < 768)
         return 1
-    if (is_invisible(code) || is_in(code, "768 879 1155 1161 1425 1469 8400 8447 65024 65039"))
+    if (is_in(code, invisible) || is_in(code, combining))
         return 0
-    if (is_in(code, "4352 4447 11904 12350 12353 19903 19968 42191 44032 55203 63744 64255 65072 65135 65281 65376") ||
-        is_in(code, "65504 65510 127744 128591 128640 128767 129280 129535 131072 262141"))
-        return 2
-    return 1
+    return is_in(code, wide) ? 2 : 1
 }

@@ -8,29 +8,61 @@
 
 BEGIN {
     begins_field = 1
+    before = 0
 }
 
 {
-    line = $0 "\n"
-    for (i = 1; i <= length(line); i++) {
-        c = substr(line, i, 1)
-        if (!is_in_record && c != "\n" && c != "\r") {
-            if (count++ == record) {
-                print before + i - 1
-                exit
-            }
-            is_in_record = 1
-        }
-        if (is_quoted) {
-            is_quoted = c != "\""
-            ends_quoted = !is_quoted
-            continue
-        }
-        is_quoted = c == "\"" && (begins_field || ends_quoted)
-        ends_quoted = 0
-        begins_field = c == "," || c == "\n" || c == "\r"
-        if (c == "\n" || c == "\r")
-            is_in_record = 0
+    count = split($0, pieces, "\"")
+    # An empty line has no piece.
+    if (count == 0)
+        before++
+    for (i = 1; i <= count; i++) {
+        if (i > 1)
+            read_mark(before - 1)
+        if (pieces[i] != "" && !is_quoted)
+            read_piece(pieces[i], before)
+        # After it comes a mark, or the line feed.
+        before += length(pieces[i]) + 1
     }
-    before += length(line)
+    if (!is_quoted) {
+        is_in_record = ends_quoted = 0
+        begins_field = 1
+    }
+}
+
+# Reads the byte `"` at a place.
+function read_mark(place) {
+    begin_record(place)
+    if (is_quoted) {
+        is_quoted = 0
+        ends_quoted = 1
+    } else {
+        is_quoted = begins_field || ends_quoted
+        ends_quoted = begins_field = 0
+    }
+}
+
+# Reads bytes that are not quoted and have neither `"` nor a line feed, from a place on.
+function read_piece(piece, place,    lines, count, i) {
+    count = split(piece, lines, "\r")
+    for (i = 1; i <= count; i++) {
+        if (i > 1)
+            is_in_record = 0
+        if (lines[i] != "")
+            begin_record(place)
+        place += length(lines[i]) + 1
+    }
+    ends_quoted = 0
+    begins_field = piece ~ /[,\r]$/
+}
+
+# What stands at a place begins a record if none is begun.
+function begin_record(place) {
+    if (is_in_record)
+        return
+    if (records++ == record) {
+        print place
+        exit
+    }
+    is_in_record = 1
 }

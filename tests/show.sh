@@ -71,6 +71,25 @@ PROGRAM
 chmod +x says_record
 printf 'a,b\n"c\nd ""x"", y",2\r\n\n\r\ne"f,3,4\n' | all_of "$top/command/show" ./says_record | expect record.txt
 rm says_record
+# At the end of a line of a mebibyte it takes no process a second.
+cat >says_place <<'PROGRAM'
+#!/bin/sh
+echo "bad input: $SAID"
+exit 5
+PROGRAM
+chmod +x says_place
+(
+    ulimit -t 1
+    export COLUMNS=40
+    { head -c 1048570 /dev/zero | tr '\000' a && echo '<img>'; } |
+        SAID="unknown element at 1048570" all_of "$top/command/show" ./says_place |
+        expect_text $'bad input: unknown element at 1048570\nline 1, column 1048571:\n...aaaaaaaaaaaaaaaaa<img>\n                    ^\nstatus 5' \
+            "at the end of a long line"
+    { echo a && head -c 1048570 /dev/zero | tr '\000' '"' && echo && echo c; } |
+        SAID="uneven record at 2" all_of "$top/command/show" ./says_place |
+        expect_text $'bad input: uneven record at 2\nline 3, column 1:\nc\n^\nstatus 5' "after a long record"
+)
+rm says_place
 all_of show stock.html --width 12 | expect narrow.txt
 all_of show stock.html --width 4 --break any | expect narrow_any.txt
 
