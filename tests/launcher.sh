@@ -12,9 +12,8 @@ cat >"$room/bin/rt" <<'RT'
 #!/bin/sh
 echo "$1 ${PWD##*/}" >>"${0%/bin/rt}/asked"
 mkdir -p out/rlib
-sleep "${RT_SECONDS-0}"
-[ "$1" = lib ] || { printf '#!/bin/sh\necho "program $*"\n' >out/new && chmod +x out/new && mv out/new out/tablelayout; }
-[ "$1" != try ] || echo run=ended >&2
+[ "$1" != run ] || { printf '#!/bin/sh\necho "program $*"\n' >out/new && chmod +x out/new && mv out/new out/tablelayout; }
+[ "$1" != try ] || { echo "tried ${*#*-- }" && echo run=ended >&2; }
 RT
 chmod +x "$room/bin/rt"
 export PATH=$room/bin:$PATH
@@ -41,7 +40,7 @@ make_checkout() {
     printf 'low: thiserror\nhigh: low\nlow_tests: low\ntablelayout: high low\n' >"$checkout/crates.txt"
     touch "$checkout"/crates/{low,high,tablelayout,low_tests}/{src,specs,proofs}/one.rt
 }
-readonly ALL=$'lib high\nlib low\nrun tablelayout'
+readonly PROVED=$'libraries tablelayout 9\nrun tablelayout' ALL=$'lib high\nlib low\nrun tablelayout'
 
 "$top/tablelayout" help | awk 'length > 79' | expect_text "" "lines of the help above 79 columns"
 for words in "" --help; do
@@ -51,6 +50,8 @@ done
 
 # What is no command line ends before anything is proved.
 make_checkout judged
+# Its libraries are proved by another script that only says what it is asked for.
+printf '#!/bin/sh\necho "libraries $*" >>"%s/asked"\n' "$room" >"$checkout/tools/prove_libraries.py"
 for words in lya lay "lay 9" "lay 9 in" "narrow 9 in" "tidy 9 in" "check 9 in" demo "demo 1 2" "preview 9" preview \
     install "install a b" uninstall -h in.html; do
     # shellcheck disable=SC2086
@@ -67,9 +68,21 @@ told_by "$checkout/tablelayout" install "$room/occupied" | expect_text "status 1
 asked | expect_text "" "by rt for what is refused"
 [ ! -e "$checkout/out/proving" ] || touch "$failed"
 
+# A preview proves nothing, and leaves nothing.
+mkdir "$room/temporary"
+export TMPDIR=$room/temporary
+told_by "$checkout/tablelayout" preview 9 "$top/examples/spans.html" --html |
+    expect_text $'tried lay 9 in /dev/stdout --html\nstatus 0' "by preview before the program is built"
+asked | expect_text "try tablelayout" "by rt for a preview"
+for name in "$room/none" "$room" -; do
+    all_of "$checkout/tablelayout" preview 9 "$name" </dev/null | expect_text $'read fault\nstatus 7' "by preview of no file"
+done
+asked | expect_text "" "by rt for no file"
+names "$TMPDIR" | expect_text "" "and left by previews"
+
 # What may be one is for the program.
 told_by "$checkout/tablelayout" lay 9 in page | expect_text $'program lay 9 in page\nstatus 0' "by lay"
-asked | expect_text "$ALL" "by rt for a first lay"
+asked | expect_text "$PROVED" "by rt for a first lay"
 for words in "lay 9 in page --style" "narrow 9 in page" "tidy 9 --in page" "check 9 in cert" "demo x"; do
     # shellcheck disable=SC2086
     all_of "$checkout/tablelayout" $words | expect_text "program $words"$'\nstatus 0' "by $words"
@@ -81,11 +94,28 @@ linked demo 1 | expect_text "program demo 1" "by a link"
 COLUMNS=7 "$checkout/tablelayout" show "" 2>&1 | expect_text "program lay 7  /dev/fd/3 --style compact" "by show with COLUMNS"
 asked | expect_text "" "by rt for a program that is built"
 
+# Where nothing changed, one process looks for what is newer.
+cat >"$room/bin/find" <<FIND
+#!/bin/sh
+echo find >>"$room/asked"
+exec $(command -v find) "\$@"
+FIND
+chmod +x "$room/bin/find"
+# shellcheck disable=SC2185
+if find -files0-from "$checkout/out/sources" -quit 2>/dev/null; then
+    rm "$room/asked"
+    "$checkout/tablelayout" demo 1 | expect_text "program demo 1" "by demo"
+    asked | expect_text "find" "where nothing changed"
+else
+    skip "this find reads no list of files, so each start walks through the sources"
+fi
+rm -f "$room/bin/find" "$room/asked"
+
 # A program that is older than a source is not run, whatever became of the source; one of which only something else
 # changed is.
 is_proved_after() {
     told_by "$checkout/tablelayout" demo 1 | expect_text $'program demo 1\nstatus 0' "after $1"
-    asked | expect_text "${2-$ALL}" "by rt after $1"
+    asked | expect_text "${2-$PROVED}" "by rt after $1"
 }
 crates=$checkout/crates
 echo >>"$crates/low/proofs/one.rt"
@@ -119,32 +149,39 @@ touch "$crates/low/src/one.rt"
 rm "$checkout/out/sources"
 is_proved_after "an edit and a loss of the list"
 
-# Of two that begin at one time one builds, and the other waits and says so.
-export RT_SECONDS=0.2
-make_checkout twice
-for i in 1 2; do
-    "$checkout/tablelayout" demo $i >"$room/made_$i" 2>"$room/said_$i" &
-done
-wait
-cat "$room"/made_[12] | expect_text $'program demo 1\nprogram demo 2' "by two at one time"
-asked | expect_text "$ALL" "by rt for two at one time"
+# Of those that begin while another builds each waits and says so, and one of them builds.
 readonly WAITS="tablelayout: another process builds the program in this checkout; this one waits for it"
-grep -hFx "$WAITS" "$room"/said_[12] | expect_text "$WAITS" "by the one that waits"
-
-# So do one that proves libraries alone, and one that installs.
-make_checkout beside
-"$checkout/tools/prove_libraries.py" tablelayout 2>"$room/said_1" &
-"$checkout/tablelayout" install "$room/beside_to" 2>"$room/said_2" &
-wait
-"$room/beside_to/bin/tablelayout" demo 2 | expect_text "program demo 2" "by what was installed"
-asked | expect_text $'lib high\nlib high\nlib low\nlib low\nrun tablelayout' "by rt for libraries and an install"
-grep -hFx "$WAITS" "$room"/said_[12] | expect_text "$WAITS" "by the one that waits"
-# What the program alone does starts no other process, and none of it waits for one that builds.
-PATH=$room/none /bin/sh "$room/beside_to/bin/tablelayout" demo 3 | expect_text "program demo 3" "with nothing in the path"
+# Begins two commands while the lock is held, and frees it once both wait.
+try_together() {
+    local tries
+    mkdir "$checkout/out"
+    exec 8>"$checkout/out/lock"
+    flock 8
+    $1 >"$room/made_1" 2>"$room/said_1" 8>&- &
+    $2 >"$room/made_2" 2>"$room/said_2" 8>&- &
+    for ((tries = 0; tries < 20; tries++)); do
+        if grep -qsFx "$WAITS" "$room/said_1" && grep -qsFx "$WAITS" "$room/said_2"; then break; fi
+        sleep 0.2
+    done
+    asked | expect_text "" "by rt while another builds"
+    exec 8>&-
+    wait
+    grep -hFx "$WAITS" "$room"/said_[12] | expect_text "$WAITS"$'\n'"$WAITS" "by $1 and $2"
+}
 if command -v flock >/dev/null; then
+    make_checkout twice
+    try_together "$checkout/tablelayout demo 1" "$checkout/tablelayout demo 2"
+    cat "$room"/made_[12] | expect_text $'program demo 1\nprogram demo 2' "by two at one time"
+    asked | expect_text "$ALL" "by rt for two at one time"
+
+    make_checkout beside
+    try_together "$checkout/tools/prove_libraries.py tablelayout" "$checkout/tablelayout install $room/beside_to"
+    asked | expect_text $'lib high\nlib high\nlib low\nlib low\nrun tablelayout' "by rt for libraries and an install"
+    # What the program alone does starts no other process, and where it is built it waits for none.
+    PATH=$room/none /bin/sh "$room/beside_to/bin/tablelayout" demo 3 | expect_text "program demo 3" "with nothing in the path"
     flock "$checkout/out/lock" "$checkout/tablelayout" demo 4 2>&1 | expect_text "program demo 4" "while another builds"
 else
-    skip "there is no flock, so no lock is held"
+    skip "there is no flock, so none waits for another"
 fi
 
 [ ! -e "$failed" ]
