@@ -60,7 +60,6 @@ give_up() {
 build_alone() {
     lock
     is_built || prove_and_build
-    exec 9<&-
 }
 
 # Proves and builds the program, with the lock.
