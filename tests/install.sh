@@ -160,12 +160,20 @@ rmdir "$to/over/libexec/tablelayout/tl_program"
 mkdir "$room/ends"
 cat >"$room/ends/install" <<'INSTALL'
 #!/bin/sh
-[ "${4%.lua.*}" = "$4" ] || kill "$PPID"
+[ "${4%.lua.*}" = "$4" ] || { kill "$PPID" && exit 1; }
 exec /usr/bin/install "$@"
 INSTALL
-chmod +x "$room/ends/install"
-PATH=$room/ends:$PATH leaves "$to" "$checkout/tablelayout" install "$to/over"
-PATH=$room/ends:$PATH leaves "$to" "$checkout/tablelayout" install "$to/another/place"
+cat >"$room/ends/mv" <<'MV'
+#!/bin/sh
+[ "${2%/show.*.new}" = "$2" ] || { kill "$PPID" && exit 1; }
+exec /usr/bin/mv "$@"
+MV
+chmod +x "$room/ends/install" "$room/ends/mv"
+for name in install mv; do
+    PATH=$room/ends:$PATH leaves "$to" "$checkout/tablelayout" install "$to/over"
+    PATH=$room/ends:$PATH leaves "$to" "$checkout/tablelayout" install "$to/another/place"
+    rm "$room/ends/$name"
+done
 # Where a folder may not be written by who runs it.
 another=()
 if [ "$(id -u)" = 0 ]; then
