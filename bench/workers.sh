@@ -4,8 +4,8 @@
 # workers in turn, and compares these, since a machine's speed may change meanwhile. Each number is the middle one of 21
 # rounds; times are elapsed, with the start of the process. At last, nine times, four runs by one worker each at one
 # time: what the machine gives four threads that share nothing. Builds the program where it is missing. Fails where 2
-# workers are not 1.7 times as fast as one on the large tables, or 4 not 2.8 times; and where the small ones take 10 %
-# and 2 ms longer with 4 than with one.
+# workers are not 1.6 times as fast as one on the large tables, or 4 not 2.6 times; and where on the small ones 2 or 4
+# take more than 1.1 times as long as one.
 set -euo pipefail
 here=$(dirname "$(readlink -f "${BASH_SOURCE[0]}")")
 "$here/../tablelayout" lay 7 "$here/../examples/first.html" /dev/stdout >/dev/null
@@ -54,12 +54,12 @@ run_four() {
     wait
 }
 
-# Sets `begun` to the time, and prints the milliseconds since then.
+# Sets `begun` to the time, and prints the microseconds since then.
 begin() { begun=${EPOCHREALTIME/[.,]/}; }
-spent() { echo $(((${EPOCHREALTIME/[.,]/} - begun) / 1000)); }
+spent() { echo $((${EPOCHREALTIME/[.,]/} - begun)); }
 
-# Reads rounds, each a line with the times of 1, 2 and 4 workers. Prints the middle time of each, and of the large
-# tables the middle of how many times as fast as one they were in a round. Fails where that is too little.
+# Reads rounds, each a line with the times of 1, 2 and 4 workers. Prints the middle time of each, and the middle of how
+# many times as fast as one they were in a round. Fails where that is too little.
 report() {
     awk -v command="$1" -v name="$2" '
         function middle(list, count,    i, j, kept) {
@@ -76,15 +76,15 @@ report() {
                 for (round = 1; round <= NR; round++) { times[round] = time[i, round]; gains[round] = gain[i, round] }
                 took[i] = middle(times, NR)
                 gained[i] = middle(gains, NR)
-                printf "%-5s %s, %d workers: %4d ms", command, name, 2 ^ (i - 1), took[i]
-                if (name == "large" && i > 1) printf ", %.2f times as fast as one", gained[i]
+                printf "%-5s %s, %d workers: %6.1f ms", command, name, 2 ^ (i - 1), took[i] / 1000
+                if (i > 1) printf ", %.2f times as fast as one", gained[i]
                 print ""
             }
-            exit name == "large" ? gained[2] < 1.7 || gained[3] < 2.8 : took[3] > took[1] * 1.1 + 2
+            exit name == "large" ? gained[2] < 1.6 || gained[3] < 2.6 : gained[2] < 1 / 1.1 || gained[3] < 1 / 1.1
         }'
 }
 
-# The milliseconds that one of both commands takes on one of the files by 1, 2 and 4 workers, on a line.
+# The microseconds that one of both commands takes on one of the files by 1, 2 and 4 workers, on a line.
 times() {
     local workers
     for workers in 1 2 4; do
@@ -113,5 +113,5 @@ for _ in 1 2 3 4 5 6 7 8 9; do
     run_four
     echo "$one $(spent)"
 done | awk '{ printf "%.6f %d %d\n", 4 * $1 / $2, $1, $2 }' | sort -n | sed -n 5p |
-    awk '{ printf "four checks by one worker at one time: %d ms, where one takes %d: %.2f times as fast\n", $3, $2, $1 }'
+    awk '{ printf "four checks by one worker at one time: %d ms, where one takes %d: %.2f times as fast\n", $3 / 1000, $2 / 1000, $1 }'
 exit "$failed"

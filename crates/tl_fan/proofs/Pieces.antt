@@ -1,25 +1,16 @@
 -- Numbers in a row, and groups of pieces one after the other.
-use Rattle.std.proofs.Common.{◌≡◌, ◌∙◌, ℕ, ◌+◌, ◌-◌, ◌<◌, List, [], ◌∷◌, ◌++◌, length, get_or, map, take, drop, refl}
+use Rattle.std.proofs.Common.{◌≡◌, ◌∙◌, ℕ, ◌+◌, ◌-◌, List, [], ◌∷◌, ◌++◌, length, map, take, drop}
 use Rattle.std.proofs.Common.{slice_range, sym, ap, subst, arith}
 use Rattle.std.specs.List.{AllZip, range_with_len}
 use Rattle.std.proofs.Math.Seq.{take-add}
 use Rattle.std.proofs.lemmas.List.{map-id}
 use Rattle.std.proofs.lemmas.List.FromFn.{map-range_with_len_more}
 use Rattle.tl_base.proofs.Zips.{AllZip-append}
-use Rattle.tl_base.proofs.Taken.{AllZip-taken}
 
 -- one more number
 pub range_more : (n : ℕ) → range_with_len 0 (n + 1) ≡ range_with_len 0 n ++ n ∷ []
 range_more n = sym (map-id (range_with_len 0 (n + 1))) ∙ map-range_with_len_more (λ m. m) 0 n n (omega arith)
     ∙ ap (λ numbers. numbers ++ n ∷ []) (map-id (range_with_len 0 n))
-
--- one more piece
-pub piece_more : {X : Type 0} (R : ℕ → X → Type 0) (numbers : List ℕ) (at : ℕ) (found more : List X) (one : X) →
-    at < length numbers → AllZip R (take at numbers) found → more ≡ found ++ one ∷ [] → R (get_or numbers at 0) one →
-    AllZip R (take (at + 1) numbers) more
-piece_more R numbers at found more one within old is new =
-    subst (AllZip R (take (at + 1) numbers)) (sym is)
-    (AllZip-taken R numbers found at 0 (get_or numbers at 0) one within refl old new)
 
 -- one more group
 pub group_more : {X : Type 0} (R : ℕ → X → Type 0) (numbers : List ℕ) (from size : ℕ) (found more : List X) →

@@ -1,5 +1,5 @@
-//! Runs pieces of work at once: each by its number, in groups of so many workers. It knows nothing of the
-//! work. Its one contract: the results are what the pieces give, in the order of their numbers, for every
+//! Runs pieces of work at once: each by its number, in order, in groups of so many workers. It knows nothing of
+//! the work. Its one contract: the results are what the pieces give, in the order of their numbers, for every
 //! number of workers and every gate.
 #![tactic(auto)]
 

@@ -4,32 +4,39 @@ ghost use Rattle.std.specs.Prelude.{◌≤◌};
 
 use std::alloc::{AllocError, Global};
 use std::process::Abort;
-use std::sync::atomic::{AtomicBool, AtomicU32, Ordering};
+use std::sync::atomic::{AtomicU32, Ordering};
 use std::test::Fail;
 use std::thread::Threads;
 use tl_base::{Gate, NoGate};
 use tl_fan::{fan_out, gather, places};
 
-/// How often a piece looks for another one's flag.
+/// How often a piece looks for the others of its group.
 const TURNS: u32 = 100_000_000;
 
-/// A gate at which the pieces 0 and 1 meet: each sets its flag, and looks for the other's. All others pass.
+/// Microseconds that no pieces here take: none of them is small.
+const LONG: u64 = 1_000_000_000;
+
+/// A gate at which the pieces of a group of so many meet: each comes, and waits until all of them have come.
+/// The pieces from `past` on pass.
 #[derive(Drop)]
-struct Meeting {
-    flags: [AtomicBool; 2],
-    seen: [AtomicBool; 2],
+struct Together {
+    size: u32,
+    past: u32,
+    come: AtomicU32,
+    met: AtomicU32,
 }
 
-impl Gate for Meeting {
+impl Gate for Together {
     fn pass(&self, piece: u32) {
-        if piece > 1 {
+        if piece >= self.past {
             return;
         }
-        let own = (piece % 2) as usize;
-        self.flags[own].store(true, Ordering::SeqCst);
+        let size = self.size.max(1);
+        let all = (piece - piece % size).saturating_add(size);
+        self.come.fetch_add(1, Ordering::SeqCst);
         for _ in 0..TURNS {
-            if self.flags[1 - own].load(Ordering::SeqCst) {
-                self.seen[own].store(true, Ordering::SeqCst);
+            if self.come.load(Ordering::SeqCst) >= all {
+                self.met.fetch_add(1, Ordering::SeqCst);
                 return;
             }
         }
@@ -76,8 +83,10 @@ fn tenfold(
     requires { 1 ≤ workers }
 {
     let piece = |number: u32| -> u32 { number.wrapping_mul(10) };
-    let found = fan_out(rt, alloc, &NoGate, workers, numbers, &piece)?;
+    let found = fan_out(rt, alloc, &NoGate, workers, numbers, LONG, &piece)?;
     assert_eq!(rt; found.as_slice(), wanted);
+    let small = fan_out(rt, alloc, &NoGate, workers, numbers, 0, &piece)?;
+    assert_eq!(rt; small.as_slice(), wanted);
     Ok(())
 }
 
@@ -91,30 +100,60 @@ fn results_come_in_the_order_of_the_numbers(rt: HostRuntime) -> Result<(), Fail>
     tenfold(rt, alloc, 2, &[], &[])
 }
 
-/// So many pieces by two workers, where the pieces 0 and 1 see each other at work.
-fn meet_at_work(rt: &(impl Abort + Threads + Sync), alloc: Global, count: u32) -> Result<(), Fail> {
-    let gate = Meeting {
-        flags: [AtomicBool::new(false), AtomicBool::new(false)],
-        seen: [AtomicBool::new(false), AtomicBool::new(false)],
+/// So many pieces by so many workers, where those before `past` see all others of their group at work.
+fn meet_at_work(
+    rt: &(impl Abort + Threads + Sync),
+    alloc: Global,
+    workers: u32,
+    count: u32,
+    past: u32,
+    effort: u64,
+) -> Result<(), Fail>
+    requires { 1 ≤ workers }
+{
+    let gate = Together {
+        size: workers,
+        past,
+        come: AtomicU32::new(0),
+        met: AtomicU32::new(0),
     };
     let piece = |number: u32| -> u32 { number };
     let numbers = places(alloc, count)?;
-    let found = fan_out(rt, alloc, &gate, 2, numbers.as_slice(), &piece)?;
+    let found = fan_out(
+        rt,
+        alloc,
+        &gate,
+        workers,
+        numbers.as_slice(),
+        effort,
+        &piece,
+    )?;
     assert_eq!(rt; found.as_slice(), numbers.as_slice());
-    assert!(rt; gate.seen[0].load(Ordering::SeqCst));
-    assert!(rt; gate.seen[1].load(Ordering::SeqCst));
+    assert_eq!(rt; gate.met.load(Ordering::SeqCst), past);
     Ok(())
 }
 
 #[test]
-fn two_pieces_of_a_group_are_at_work_at_one_time(rt: HostRuntime) -> Result<(), Fail> {
-    meet_at_work(&rt, rt.alloc(), 2)
+fn the_pieces_of_a_group_are_at_work_at_one_time(rt: HostRuntime) -> Result<(), Fail> {
+    let alloc = rt.alloc();
+    meet_at_work(&rt, alloc, 2, 2, 2, LONG)?;
+    meet_at_work(&rt, alloc, 3, 3, 3, LONG)?;
+    meet_at_work(&rt, alloc, 16, 16, 16, LONG)
 }
 
 #[test]
-fn of_many_pieces_the_first_two_are_at_work_at_one_time(rt: HostRuntime) -> Result<(), Fail> {
-    meet_at_work(&rt, rt.alloc(), 16)?;
-    meet_at_work(&rt, rt.alloc(), 201)
+fn in_each_group_all_pieces_are_at_work_at_one_time(rt: HostRuntime) -> Result<(), Fail> {
+    let alloc = rt.alloc();
+    meet_at_work(&rt, alloc, 2, 201, 200, LONG)?;
+    meet_at_work(&rt, alloc, 3, 10, 9, LONG)?;
+    meet_at_work(&rt, alloc, 4, 40, 40, LONG)
+}
+
+#[test]
+fn the_first_small_pieces_are_at_work_at_one_time(rt: HostRuntime) -> Result<(), Fail> {
+    let alloc = rt.alloc();
+    meet_at_work(&rt, alloc, 2, 16, 2, 0)?;
+    meet_at_work(&rt, alloc, 3, 3, 3, 0)
 }
 
 #[test]
@@ -129,26 +168,40 @@ fn each_piece_passes_the_gate_once(rt: HostRuntime) -> Result<(), Fail> {
     };
     let piece = |number: u32| -> u32 { number };
     let numbers = places(rt.alloc(), 40)?;
-    fan_out(&rt, rt.alloc(), &gate, 3, &numbers.as_slice()[..4], &piece)?;
+    fan_out(
+        &rt,
+        rt.alloc(),
+        &gate,
+        3,
+        &numbers.as_slice()[..4],
+        LONG,
+        &piece,
+    )?;
     for passed in &gate.passed {
         assert_eq!(&rt; passed.load(Ordering::SeqCst), 1);
     }
-    fan_out(&rt, rt.alloc(), &gate, 3, numbers.as_slice(), &piece)?;
+    fan_out(&rt, rt.alloc(), &gate, 3, numbers.as_slice(), LONG, &piece)?;
     for passed in &gate.passed {
         assert_eq!(&rt; passed.load(Ordering::SeqCst), 11);
+    }
+    fan_out(&rt, rt.alloc(), &gate, 3, numbers.as_slice(), 0, &piece)?;
+    for passed in &gate.passed {
+        assert_eq!(&rt; passed.load(Ordering::SeqCst), 21);
     }
     Ok(())
 }
 
-/// The pieces by two workers, in groups of so many pieces: none begins before the group before has ended.
+/// So many pieces by so many workers: none begins before the group before has ended.
 fn groups(
     rt: &(impl Abort + Threads + Sync),
     alloc: Global,
     count: u32,
-    size: u32,
-) -> Result<(), Fail> {
+    workers: u32,
+) -> Result<(), Fail>
+    requires { 1 ≤ workers }
+{
     let gate = Grouped {
-        size,
+        size: workers,
         ended: AtomicU32::new(0),
         early: AtomicU32::new(0),
     };
@@ -157,7 +210,7 @@ fn groups(
         number
     };
     let numbers = places(alloc, count)?;
-    let found = fan_out(rt, alloc, &gate, 2, numbers.as_slice(), &piece)?;
+    let found = fan_out(rt, alloc, &gate, workers, numbers.as_slice(), LONG, &piece)?;
     assert_eq!(rt; found.as_slice(), numbers.as_slice());
     assert_eq!(rt; gate.early.load(Ordering::SeqCst), 0);
     Ok(())
@@ -165,37 +218,10 @@ fn groups(
 
 #[test]
 fn a_group_begins_after_the_one_before_has_ended(rt: HostRuntime) -> Result<(), Fail> {
-    groups(&rt, rt.alloc(), 4, 2)
-}
-
-#[test]
-fn of_many_pieces_a_thread_does_several(rt: HostRuntime) -> Result<(), Fail> {
-    groups(&rt, rt.alloc(), 8, 4)?;
-    groups(&rt, rt.alloc(), 201, 102)
-}
-
-#[test]
-fn a_thread_goes_on_while_another_one_is_slow(rt: HostRuntime) -> Result<(), Fail> {
-    // The last piece of the first group, which has 102, waits for all others of it.
-    let ended = AtomicU32::new(0);
-    let piece = |number: u32| -> bool {
-        if number != 101 {
-            ended.fetch_add(1, Ordering::SeqCst);
-            return true;
-        }
-        for _ in 0..TURNS {
-            if ended.load(Ordering::SeqCst) == 101 {
-                return true;
-            }
-        }
-        false
-    };
-    let numbers = places(rt.alloc(), 201)?;
-    let found = fan_out(&rt, rt.alloc(), &NoGate, 2, numbers.as_slice(), &piece)?;
-    for seen in &found {
-        assert!(&rt; *seen);
-    }
-    Ok(())
+    groups(&rt, rt.alloc(), 7, 1)?;
+    groups(&rt, rt.alloc(), 4, 2)?;
+    groups(&rt, rt.alloc(), 20, 3)?;
+    groups(&rt, rt.alloc(), 201, 16)
 }
 
 #[test]
@@ -207,8 +233,8 @@ fn a_piece_out_of_memory_ends_all(rt: HostRuntime) -> Result<(), Fail> {
             Ok(number)
         }
     };
-    let found = gather(&rt, rt.alloc(), &NoGate, 2, &[0, 1, 3], &piece)?;
+    let found = gather(&rt, rt.alloc(), &NoGate, 2, &[0, 1, 3], LONG, &piece)?;
     assert_eq!(&rt; found.as_slice(), [0, 1, 3].as_slice());
-    assert!(&rt; gather(&rt, rt.alloc(), &NoGate, 2, &[0, 1, 2, 3], &piece).is_err());
+    assert!(&rt; gather(&rt, rt.alloc(), &NoGate, 2, &[0, 1, 2, 3], LONG, &piece).is_err());
     Ok(())
 }

@@ -13,6 +13,7 @@ ghost use Rattle.tl_nested.specs.inner.Depths.{IsAtDepth};
 ghost use Rattle.tl_nested.specs.inner.Found.{IsBegun, IsFoundFor, IsFoundOn, HasNarrowWidths};
 
 use crate::depths::{at_depth, depths_of, greatest, sizes_of};
+use crate::effort::effort_of;
 use crate::found::table_sections;
 use std::alloc::{AllocError, Global};
 use std::cmp::Reverse;
@@ -79,7 +80,8 @@ fn group_sections<
         ensures { IfOk result (All (IsFoundFor (GivesOutcome F.Fn solve.entry.now budget) (meant subject.entry.now) budget
             told.entry.now number)) }
     { table_sections(alloc, subject, number, budget, solve, told) };
-    gather(rt, alloc, gate, workers, numbers, &piece)
+    let effort = effort_of(subject, numbers);
+    gather(rt, alloc, gate, workers, numbers, effort, &piece)
 }
 
 /// The sections in the order of a certificate: from the greatest number of a table down, those of one table

@@ -6,6 +6,7 @@
 
 mod at_once;
 mod depths;
+mod effort;
 mod found;
 mod make;
 mod searching;

@@ -14,6 +14,9 @@ use tl_fan::{gather, places};
 use tl_problem::{Problem, Zone};
 use tl_solve::{MakePiece, Piece, PieceSolver};
 
+/// About how many microseconds a search takes for each cut that it may make.
+const CUT_TIME: u64 = 20;
+
 /// A piece of each of the zones, in their order, each by a search of its own for layouts of less than `best`
 /// lines with at most `quota` cuts. So many `workers` search at one time, each behind the gate by the
 /// place of its zone.
@@ -44,5 +47,7 @@ pub fn pieces_at_once<R: Threads + Sync, G: Gate, P: MakePiece>(
         let mut search = maker.make(alloc)?;
         search.piece(problem, &zones[number as usize], best, quota)
     };
-    gather(rt, alloc, gate, workers, numbers.as_slice(), &piece)
+    let cuts = u64::from(quota).saturating_mul(zones.len() as u64);
+    let effort = cuts.saturating_mul(CUT_TIME);
+    gather(rt, alloc, gate, workers, numbers.as_slice(), effort, &piece)
 }

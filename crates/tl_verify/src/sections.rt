@@ -131,6 +131,24 @@ fn first_refusal(judged: Vec<Result<(), Reject>>) -> Result<(), Reject>
     Ok(())
 }
 
+/// About how many nanoseconds a section takes for each place of its page, and each cut and line that it has.
+const SIZE_TIME: u64 = 100;
+
+/// About how many microseconds it takes to judge so many sections from the first on, as far as their sizes
+/// tell it. No contract depends on it: it tells only whether they are small enough to be judged one after
+/// the other.
+fn effort_of(certificate: &Certificate, count: u32) -> u64
+    requires { count ≤ length certificate.now.sections }
+{
+    let mut size = 0u64;
+    for section in &certificate.sections.as_slice()[..count as usize] {
+        let page = u64::from(section.height).saturating_mul(u64::from(section.width));
+        let lines = section.trace.len().saturating_add(section.log.len()) as u64;
+        size = size.saturating_add(page).saturating_add(lines);
+    }
+    size.saturating_mul(SIZE_TIME) / 1000
+}
+
 /// Judges so many sections from the first on, which are in order, so many at once: the error of the first
 /// one that is not good, if there is one.
 fn judge_each<R: Threads + Sync, G: Gate>(
@@ -159,7 +177,8 @@ fn judge_each<R: Threads + Sync, G: Gate>(
         ensures { IsSectionJudged (meant subject.entry.now) budget certificate.entry.now number result }
     { judge(alloc, subject, budget, certificate, number) };
     let numbers = places(alloc, count)?;
-    let judged = fan_out(rt, alloc, gate, workers, numbers.as_slice(), &piece)?;
+    let effort = effort_of(certificate, count);
+    let judged = fan_out(rt, alloc, gate, workers, numbers.as_slice(), effort, &piece)?;
     first_refusal(judged)
 }
 
