@@ -64,7 +64,7 @@ returns-then-not-branch-clause-joined c =
     let number = (c.zones.below - 1) / 2 in
     let same = c.in_ok-join.ensures.same c.if-not-branch.true in
     λ _. subst (AreJoinedBut 0) (sym same) (joined-all c.zones.self c.zones.below number
-    (part-of c.zones.below number c.zones-test.true refl) c.zones.invariant.joined
+    (part-of c.zones.below number (omega (arith, c.zones-test.true)) refl) c.zones.invariant.joined
     (λ low high. subst (λ (l : Learning). HasLineOfCut l number) same (c.in_ok-join.ensures.joined low high)))
 
 pub returns-after-zones-clause-joined : goal.returns-after-zones-clause-joined
@@ -80,14 +80,14 @@ zones-smaller c =
     let arena = c.in_ok-join.ensures.grown.arena ∙ c.zones.invariant.grown.arena in
     zone-above c.args.problem.now c.args.self.now.arena.trace c.as_slice.result.now
     (c.as_slice.ensures ∙ c.trace.ensures ∙ ap (λ (a : Arena). a.trace) arena) c.requires.learning.arena.trace_of c.zones.below
-    c.zones-test.true c.zones.invariant.there
+    (omega (arith, c.zones-test.true)) c.zones.invariant.there
 
 pub zones-preserved : goal.zones-preserved
 zones-preserved c =
     let arena = c.in_ok-join.ensures.grown.arena ∙ c.zones.invariant.grown.arena in
     let below = zone-above c.args.problem.now c.args.self.now.arena.trace c.as_slice.result.now
     (c.as_slice.ensures ∙ c.trace.ensures ∙ ap (λ (a : Arena). a.trace) arena) c.requires.learning.arena.trace_of c.zones.below
-    c.zones-test.true c.zones.invariant.there in
+    (omega (arith, c.zones-test.true)) c.zones.invariant.there in
     let number = (c.zones.below - 1) / 2 in
     let there : number < length c.zones.self.arena.trace = subst (λ (a : Arena). number < length a.trace)
     (sym c.zones.invariant.grown.arena) (omega (arith, c.zones-test.true, c.zones.invariant.there)) in
