@@ -16,13 +16,14 @@ use Rattle.tl_cert.specs.Implied.{Implied}
 use Rattle.tl_cert.specs.Learnt.{NogoodCloses}
 use Rattle.tl_cert.specs.Lines.{IsGoodLine}
 use Rattle.tl_cert.specs.Traces.{Stands, zone_of, IsZoneOf}
-use Rattle.tl_cert.specs.Worked.{IsClosedZone}
 use Rattle.tl_cert.proofs.CutParts.{HasParts, has-parts, no_cut}
 use Rattle.tl_solve.specs.declared.arena.Arena.{Arena}
 use Rattle.tl_solve.specs.Arenas.{IsBoundFound, HasBoundBelow}
 use Rattle.tl_solve.specs.CutsFound.{IsCutFound}
 use Rattle.tl_store.specs.Stores.{HaveSame, nogoods_of}
 use Rattle.tl_branch.specs.declared.learning.Learning.{Learning}
+use Rattle.tl_branch.specs.Learn.{IsUnclosed}
+use Rattle.tl_branch.specs.inner.Learnings.{IsClosedByBound}
 use Rattle.tl_branch.specs.inner.Learnings.{IsLearning, IsGrown, IsRetried, IsShut, ArePartLines, HasLine}
 use Rattle.tl_branch.specs.inner.Learnings.{HasLineOfCut, line_of, log_nogoods}
 use Rattle.tl_branch.specs.inner.Opens.{HaveLinesFrom, OpenProve}
@@ -45,17 +46,36 @@ grown-next a b c first second = record {
   budget = second.budget ∙ first.budget;
   height = second.height ∙ first.height;
   lines = λ z has. second.lines z (first.lines z has);
+  unclosed = λ problem cut was. subst (λ (arena : Arena). IsUnclosed problem (log_nogoods problem c) arena.trace cut) first.arena
+      (second.unclosed problem cut (subst (λ (arena : Arena). IsUnclosed problem (log_nogoods problem b) arena.trace cut)
+      (sym first.arena) (first.unclosed problem cut was)));
 }
 
-pub grown-retried : (a b c : Learning) → IsRetried a b → IsGrown b c → IsGrown a c
-grown-retried a b c first second = record {
-  alloc = second.alloc ∙ ap (λ (l : Learning). l.alloc) first.same;
-  arena = second.arena ∙ ap (λ (l : Learning). l.arena) first.same;
-  low_is_high = second.low_is_high ∙ ap (λ (l : Learning). l.low_is_high) first.same;
-  budget = second.budget ∙ ap (λ (l : Learning). l.budget) first.same;
-  height = second.height ∙ ap (λ (l : Learning). l.height) first.same;
-  lines = λ z has. second.lines z (subst (λ (l : Learning). HasLine l.lines.items z) (sym first.same) has);
+-- nothing changes
+pub grown-same : (l : Learning) → IsGrown l l
+grown-same l = record {
+  alloc = refl;
+  arena = refl;
+  low_is_high = refl;
+  budget = refl;
+  height = refl;
+  lines = λ z has. has;
+  unclosed = λ problem cut was. was;
 }
+
+pub grown-of_retried : (a b : Learning) → IsRetried a b → IsGrown a b
+grown-of_retried a b first = subst (IsGrown a) (sym first.same) (record {
+  alloc = refl;
+  arena = refl;
+  low_is_high = refl;
+  budget = refl;
+  height = refl;
+  lines = λ z has. has;
+  unclosed = λ problem cut was. was;
+})
+
+pub grown-retried : (a b c : Learning) → IsRetried a b → IsGrown b c → IsGrown a c
+grown-retried a b c first second = grown-next a b c (grown-of_retried a b first) second
 
 pub line-at : (lines : List (Option ℕ)) (z k : ℕ) (o : Option ℕ) → z < length lines → o ≡ get_or lines z o → o ≡ Some k →
     get_or lines z None ≡ Some k
@@ -90,11 +110,11 @@ module _ (problem : ProblemModel) (l : Learning) (is : IsLearning problem l) (z 
       (length l.log) z there bound (some-bound bound some) enough
 
   pub shut-grown : (new : Learning) → IsGrown l new → HasLine new.lines.items z →
-      IsClosedZone problem (zone_of problem l.arena.trace z) l.height → IsShut problem new z
+      IsClosedByBound problem (zone_of problem l.arena.trace z) l.height → IsShut problem new z
   shut-grown new grown line closed = record {
     line = line;
-    closed = subst (λ (h : ℕ). IsClosedZone problem (zone_of problem new.arena.trace z) h) (sym grown.height)
-        (subst (λ (arena : Arena). IsClosedZone problem (zone_of problem arena.trace z) l.height) (sym grown.arena) closed);
+    closed = subst (λ (h : ℕ). IsClosedByBound problem (zone_of problem new.arena.trace z) h) (sym grown.height)
+        (subst (λ (arena : Arena). IsClosedByBound problem (zone_of problem arena.trace z) l.height) (sym grown.arena) closed);
   }
 
   -- ---- a nogood of the store

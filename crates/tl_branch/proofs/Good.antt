@@ -1,6 +1,6 @@
 -- Lines that are good stay so for a lower height, and once further cuts and lines come.
 use Rattle.std.proofs.Common.{◌≡◌, ◌∙◌, ℕ, ◌<◌, ◌≤◌, suc, List, [], ◌∷◌, length, get_or, map, refl, sym, ap, subst, arith}
-use Rattle.std.specs.List.{All}
+use Rattle.std.specs.List.{All, remove}
 use Rattle.tl_problem.specs.Problem.{ProblemModel}
 use Rattle.tl_cert.specs.declared.limits.TheConstants.{MAX_BOUNDS}
 use Rattle.tl_cert.specs.declared.log.Bound.{Bound}
@@ -15,6 +15,7 @@ use Rattle.tl_cert.specs.Learnt.{with_bounds, AreAllBut, IsMinimalLine}
 use Rattle.tl_cert.specs.Lines.{nogood_at, Fires, LineEndsBy, fired, IsGoodLine}
 use Rattle.tl_cert.specs.Nogoods.{zone_bounds, nogood_bounds, NamesAreThere}
 use Rattle.tl_cert.specs.Traces.{zone_of, IsZoneOf}
+use Rattle.tl_branch.specs.Learn.{with_fires}
 use Rattle.tl_branch.specs.inner.Learnings.{IsKeptLine}
 
 -- ---- a lower height
@@ -113,11 +114,11 @@ module _ (problem : ProblemModel) (t u : List CutAt) (l m : List LogLine) (on : 
             (names-on (nogood_at l (get_or line.fires i d)) e.1),
       )) good
 
-  -- a line of bounds that is good was good
-  good-back : (height k : ℕ) (line : LogLine) (bounds : List Bound) → k ≤ length l →
-      IsGoodLine problem u m height k (with_bounds line bounds) → IsGoodLine problem t l height k (with_bounds line bounds)
-  good-back height k line bounds within good = good-moved problem u t m l height k (with_bounds line bounds) refl
-      (sym (fired-on k within (with_bounds line bounds) (λ i d inside. (good.earlier i d inside).0))) good.names
+  -- a line that is good was good, where what it names was there
+  good-back : (height k : ℕ) (line : LogLine) → k ≤ length l → NamesAreThere problem t line.nogood →
+      IsGoodLine problem u m height k line → IsGoodLine problem t l height k line
+  good-back height k line within names good = good-moved problem u t m l height k line (sym (bounds-on line.nogood names))
+      (sym (fired-on k within line (λ i d inside. (good.earlier i d inside).0))) names
       (λ i d inside.
       let e = good.earlier i d inside in
       (e.0, at-names (get_or line.fires i d) (omega (arith, e.0, within)))) good
@@ -132,6 +133,8 @@ module _ (problem : ProblemModel) (t u : List CutAt) (l m : List LogLine) (on : 
         minimal = λ few bound others are good. kept.minimal
             (subst (λ (bounds : List Bound). length bounds ≤ MAX_BOUNDS) (sym same) few) bound others
             (subst (λ (bounds : List Bound). AreAllBut bounds bound others) (sym same) are)
-            (good-back opening k line others within good);
+            (good-back opening k (with_bounds line others) within good.names good);
+        needed = λ i h inside good. kept.needed i h inside
+            (good-back h k (with_fires line (remove line.fires i)) within kept.good.names good);
         writable = kept.writable;
       }

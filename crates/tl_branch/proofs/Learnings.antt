@@ -1,6 +1,6 @@
 -- A search that learns stays one: when a line is put, when a cut is made, when the store tries a line, and for a lower height.
 use Rattle.std.proofs.Common.{◌≡◌, ◌≢◌, ℕ, ◌+◌, ◌*◌, ◌<◌, ◌≤◌, Bool, true, false, IsTrue, ◌↔◌, List, [], ◌∷◌, ◌++◌, inl, inr}
-use Rattle.std.proofs.Common.{length, get_or, set, Option, Some, None, refl, sym, ap, ◌∙◌, subst, arith, length-append}
+use Rattle.std.proofs.Common.{length, get_or, set, Option, Some, None, refl, sym, ap, ◌∙◌, subst, arith, length-append, ◌⊎◌}
 use Rattle.std.specs.Option.{is_some}
 use Rattle.std.specs.declared.vec.Vec.{Vec}
 use Rattle.std.specs.declared.alloc.Global.{Global}
@@ -13,6 +13,7 @@ use Rattle.tl_problem.specs.Zones.{whole_zone}
 use Rattle.tl_cert.specs.declared.limits.TheConstants.{MAX_LINE}
 use Rattle.tl_cert.specs.declared.log.Bound.{Bound}
 use Rattle.tl_cert.specs.declared.log.End.{End}
+use Rattle.tl_cert.specs.declared.log.End.TheVariants.{Fired}
 use Rattle.tl_cert.specs.declared.log.LogLine.{LogLine}
 use Rattle.tl_cert.specs.declared.log.Nogood.{Nogood}
 use Rattle.tl_cert.specs.declared.log.Nogood.TheVariants.{Zone, Bounds}
@@ -30,12 +31,14 @@ use Rattle.tl_store.specs.declared.store.Store.{Store}
 use Rattle.tl_store.specs.Shrunk.{IsShort, IsShrunk}
 use Rattle.tl_store.specs.Stores.{IsAddedNogood, IsStoreOf, nogoods_of}
 use Rattle.tl_branch.specs.declared.learning.Learning.{Learning}
-use Rattle.tl_branch.specs.inner.Learnings.{IsKeptLine, AreKeptLines, IsLineWritable, IsOfZone, IsUnclosed, IsLearning}
+use Rattle.tl_branch.specs.Learn.{FiresAreNeeded, IsUnclosed}
+use Rattle.tl_branch.specs.inner.Learnings.{IsKeptLine, AreKeptLines, IsLineWritable, IsOfZone, IsLearning}
 use Rattle.tl_branch.specs.inner.Learnings.{line_of, log_nogoods, KeepsLog, AreLinesOf, WereKnown, HasEnd}
+use Rattle.tl_branch.proofs.Fires.{needed-fewer}
 use Rattle.tl_branch.proofs.Good.{GoesOn, good-lower, minimal-higher, kept-on}
 use Rattle.tl_branch.proofs.ZoneLines.{zone_line-writable, bounds_line-writable}
 use Rattle.tl_branch.proofs.Zones.{lines-put, lines-cut, of-zone-push, nogoods-count, nogoods-push, nogoods-on}
-use Rattle.tl_branch.proofs.Zones.{keeps-push, known-push, known-cut, going-push, end-push}
+use Rattle.tl_branch.proofs.Zones.{keeps-push, known-push, known-cut, unclosed-push, going-push, end-push}
 
 -- a checker that is reserved for some cuts is so for fewer
 pub reserved-fewer : (problem : ProblemModel) (cuts fewer : ℕ) (store : Store) → fewer ≤ cuts →
@@ -105,6 +108,7 @@ module _ (problem : ProblemModel) (l : Learning) (is : IsLearning problem l) whe
         record {
           good = good-lower problem trace l.log height l.height k (get_or l.log k d) less kept.good;
           minimal = kept.minimal;
+          needed = kept.needed;
           writable = kept.writable;
         };
     lines = is.lines;
@@ -115,11 +119,21 @@ module _ (problem : ProblemModel) (l : Learning) (is : IsLearning problem l) whe
     agree = is.agree;
   }
 
+  -- a line at the end of the log closes no zone that no line closed
+  pub unclosed-line : (p : ProblemModel) (line : LogLine) (cut : CutAt) →
+      IsUnclosed p (nogoods_in p l.arena.trace l.log) l.arena.trace cut →
+      IsUnclosed p (nogoods_in p l.arena.trace (l.log ++ line ∷ [])) l.arena.trace cut
+  unclosed-line p line cut was = subst (λ (ns : List (List Bound)). IsUnclosed p ns l.arena.trace cut)
+      (sym (nogoods-push p l.arena.trace l.log line))
+      (unclosed-push p (nogoods_in p l.arena.trace l.log) (nogood_bounds p l.arena.trace line.nogood) l.arena.trace cut was)
+
   -- ---- a line is put
 
   module _ (z : ℕ) (there : IsZoneOf l.arena.trace z) (fires : List ℕ) (end : End) (short : length fires ≤ 2) (new : LogLine)
       (good : IsGoodLine problem l.arena.trace l.log l.height (length l.log) (line_of z fires end))
-      (shrunk : IsShrunk problem l.arena.trace l.log l.height (length l.log) (line_of z fires end) new) where
+      (shrunk : IsShrunk problem l.arena.trace l.log l.height (length l.log) (line_of z fires end) new)
+      (whole : (fires ≡ []) ⊎ (end ≡ Fired))
+      (needed : FiresAreNeeded problem l.arena.trace l.log (length l.log) (line_of z fires end)) where
     few-fires : All (λ f. f ≤ MAX_LINE) new.fires
     few-fires i d within =
         let before = (shrunk.good.earlier i d within).0 in
@@ -146,6 +160,8 @@ module _ (problem : ProblemModel) (l : Learning) (is : IsLearning problem l) whe
             let less = old.1.no_more in
             absurd (omega (arith, more, less, few, ap (λ (line : LogLine). length (nogood_bounds problem trace line.nogood)) old.0))
       ];
+      needed = needed-fewer problem trace l.log (length l.log) (line_of z fires end) new whole short there shrunk.fires shrunk.end
+          shrunk.among needed;
       writable = elim shrunk.small [
         | inl minimal ↦ writable-by new.nogood minimal.1 shrunk.among
         | inr old ↦ subst IsLineWritable (sym old.0) (zone_line-writable z fires end

@@ -1,7 +1,10 @@
+mod Examples
 pub mod Order
 pub mod Good
+pub mod Fires
 pub mod ZoneLines
 pub mod Zones
+pub mod Joined
 pub mod Learnings
 pub mod Closing
 pub mod Walk

@@ -1,5 +1,5 @@
 -- Which zones have lines, and which nogoods a log has, once a line is put or a cut is made.
-use Rattle.std.proofs.Common.{◌≡◌, ◌≢◌, ℕ, ◌+◌, ◌-◌, ◌*◌, ◌<◌, ◌≤◌, List, [], ◌∷◌, ◌++◌, inl, inr, length, get_or, set, cond}
+use Rattle.std.proofs.Common.{◌≡◌, ◌≢◌, ℕ, ◌+◌, ◌-◌, ◌*◌, ◌<◌, ◌≤◌, List, [], ◌∷◌, ◌++◌, inl, inr, length, get_or, set, take, cond}
 use Rattle.std.proofs.Common.{true, false, Option, Some, None, refl, sym, ap, ◌∙◌, subst, arith, length-append}
 use Rattle.std.specs.Option.{is_some}
 use Rattle.std.specs.List.{All, Contains, count_by}
@@ -23,7 +23,8 @@ use Rattle.tl_cert.specs.Nogoods.{nogood_bounds, zone_bounds}
 use Rattle.tl_cert.proofs.TraceLaws.{zone-old}
 use Rattle.tl_solve.proofs.OrderLaws.{at-each-push}
 use Rattle.tl_store.specs.Stores.{HaveSame}
-use Rattle.tl_branch.specs.inner.Learnings.{HasLine, IsOfZone, AreLinesOf, KeepsLog, IsUnclosed, WereKnown, HasEnd}
+use Rattle.tl_branch.specs.Learn.{IsUnclosed}
+use Rattle.tl_branch.specs.inner.Learnings.{HasLine, IsOfZone, AreLinesOf, KeepsLog, WereKnown, HasEnd}
 use Rattle.tl_branch.proofs.Good.{GoesOn, map-same, bounds-on}
 
 -- ---- a line of a zone
@@ -36,6 +37,10 @@ has-set lines z k y within has = elim (cases_eq y z) [
   )
   | inr apart ↦ (has.0, get_or-set_other lines z y (Some k) None apart ∙ has.1)
 ]
+
+-- no other zone got it
+pub has-other : (lines : List (Option ℕ)) (z k y : ℕ) → y ≢ z → HasLine (set lines z (Some k)) y → HasLine lines y
+has-other lines z k y apart has = (has.0, sym (get_or-set_other lines z y (Some k) None apart) ∙ has.1)
 
 -- a look at the line of a zone
 pub none-there : (lines : List (Option ℕ)) (z : ℕ) (o : Option ℕ) → z < length lines → o ≡ get_or lines z o → is_some o ≡ false →
@@ -111,6 +116,9 @@ has-more lines z has = elim (cases_lt z (length lines)) [
 pub has-two : (lines : List (Option ℕ)) (z : ℕ) → HasLine lines z → HasLine ((lines ++ None ∷ []) ++ None ∷ []) z
 has-two lines z has = has-more (lines ++ None ∷ []) z (has-more lines z has)
 
+pub two-has : (lines : List (Option ℕ)) (z : ℕ) → HasLine ((lines ++ None ∷ []) ++ None ∷ []) z → HasLine lines z
+two-has lines z has = (has.0, line-more lines z has.0 (line-more (lines ++ None ∷ []) z has.0 has.1))
+
 count-more : (lines : List (Option ℕ)) → count_by is_some (lines ++ None ∷ []) ≡ count_by is_some lines
 count-more lines =
     let sums = sum_by-append (λ (o : Option ℕ). cond (is_some o) 1 0) lines (None ∷ []) in
@@ -184,20 +192,24 @@ keeps-push nogoods kept x y keeps same = record {
 }
 
 -- a nogood more changes nothing of what was known
-pub known-push : (problem : ProblemModel) (trace : List CutAt) (nogoods : List (List Bound)) (x : List Bound) →
-    WereKnown problem trace nogoods → WereKnown problem trace (nogoods ++ x ∷ [])
-known-push problem trace nogoods x known i d within =
-    let was = known i d within in
+pub unclosed-push : (problem : ProblemModel) (nogoods : List (List Bound)) (x : List Bound) (cuts : List CutAt) (cut : CutAt) →
+    IsUnclosed problem nogoods cuts cut → IsUnclosed problem (nogoods ++ x ∷ []) cuts cut
+unclosed-push problem nogoods x cuts cut was =
     let same : (k : ℕ) → k < was.n → get_or (nogoods ++ x ∷ []) k [] ≡ get_or nogoods k [] =
     λ k less. get_or_append_left nogoods (x ∷ []) [] k (omega (arith, less, was.there)) in
     record {
       n = was.n;
       there = omega (arith, was.there, length-append nogoods (x ∷ []));
-      enough = λ z before.
-          let closing = was.enough z before in
+      before = λ z zone_there passed.
+          let closing = was.before z zone_there passed in
           (closing.0, closing.1, subst (All (Implied problem (InZone problem _))) (sym (same closing.0 closing.1)) closing.2);
       none = λ k less closes. was.none k less (subst (All (Implied problem (InZone problem _))) (same k less) closes);
     }
+
+pub known-push : (problem : ProblemModel) (trace : List CutAt) (nogoods : List (List Bound)) (x : List Bound) →
+    WereKnown problem trace nogoods → WereKnown problem trace (nogoods ++ x ∷ [])
+known-push problem trace nogoods x known i d within = unclosed-push problem nogoods x (take i trace) (get_or trace i d)
+    (known i d within)
 
 pub known-cut : (problem : ProblemModel) (trace : List CutAt) (cut : CutAt) (nogoods : List (List Bound)) →
     WereKnown problem trace nogoods → IsUnclosed problem nogoods trace cut → WereKnown problem (trace ++ cut ∷ []) nogoods

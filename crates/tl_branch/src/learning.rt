@@ -1,6 +1,6 @@
 //! A search that learns on its way: its arena, its log so far, and the store of the log's nogoods.
 
-ghost use Rattle.std.specs.Prelude.{◌≡◌, ◌+◌, ◌<◌, ◌≤◌, ◌++◌, [], ◌∷◌, length, false, IsTrue, IfNone, IfOk, IfSome, OnOk};
+ghost use Rattle.std.specs.Prelude.{◌≡◌, ◌⊎◌, ◌+◌, ◌<◌, ◌≤◌, ◌++◌, [], ◌∷◌, length, false, IsTrue, IfNone, IfOk, IfSome, OnOk};
 ghost use Rattle.tl_base.specs.declared.limits.TheConstants.{MAX_BUDGET};
 ghost use Rattle.tl_problem.specs.Zones.{whole_zone};
 ghost use Rattle.tl_cert.specs.Lines.{IsGoodLine};
@@ -8,7 +8,9 @@ ghost use Rattle.tl_cert.specs.Traces.{IsCut, IsZoneOf, zone_of};
 ghost use Rattle.tl_cert.specs.Worked.{IsClosedZone};
 ghost use Rattle.tl_solve.specs.Arenas.{HasBoundBelow};
 ghost use Rattle.tl_solve.specs.Orders.{IsFirstCut};
-ghost use Rattle.tl_branch.specs.inner.Learnings.{HasLine, IsCutOff, IsGrown, IsLearning, IsStart, IsUnclosed, line_of, log_nogoods};
+ghost use Rattle.tl_cert.specs.declared.log.End.TheVariants as ends;
+ghost use Rattle.tl_branch.specs.Learn.{FiresAreNeeded, IsUnclosed};
+ghost use Rattle.tl_branch.specs.inner.Learnings.{HasLine, IsCutOff, IsGrown, IsLearning, IsStart, NoOtherLine, line_of, log_nogoods};
 
 use crate::agreement::low_is_high;
 use std::alloc::{AllocError, Global};
@@ -139,9 +141,13 @@ impl Learning {
         requires good { IsGoodLine problem.now self.old.arena.trace self.old.log self.old.height (length self.old.log)
             (line_of zone fires end) }
         requires fires { length fires ≤ 2 }
+        requires fired { (fires ≡ []) ⊎ (end ≡ ends.Fired) }
+        requires needed { FiresAreNeeded problem.now self.old.arena.trace self.old.log (length self.old.log)
+            (line_of zone fires end) }
         ensures learning { OnOk result (IsLearning problem.now self.new) }
         ensures grown { OnOk result (IsGrown self.old self.new) }
         ensures line { OnOk result (HasLine self.new.lines.items zone) }
+        ensures alone { OnOk result (NoOtherLine zone self.old self.new) }
     {
         if self.lines[zone as usize].is_some() {
             return Ok(());

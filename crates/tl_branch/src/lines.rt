@@ -1,11 +1,13 @@
 //! The lines of zones: of those that are closed, and of those that are cut and whose parts have lines.
 
-ghost use Rattle.std.specs.Prelude.{◌≡◌, ◌+◌, ◌*◌, ◌<◌, ◌≤◌, ◌∷◌, [], length, false, true, IfNone, IfOk, IfSome, IsTrue, OnOk};
+ghost use Rattle.std.specs.Prelude.{◌≡◌, ◌+◌, ◌*◌, ◌<◌, ◌≤◌, ◌∷◌, [], get_or, length, false, true, IfNone, IfOk, IfSome, IsTrue, OnOk};
+ghost use Rattle.tl_cert.specs.declared.trace.CutAt.{CutAt};
 ghost use Rattle.tl_cert.specs.Lines.{IsGoodLine};
-ghost use Rattle.tl_cert.specs.Traces.{IsZoneOf};
+ghost use Rattle.tl_cert.specs.Traces.{IsZoneOf, Stands};
 ghost use Rattle.tl_solve.specs.Arenas.{HasBoundBelow};
 ghost use Rattle.tl_cert.specs.declared.log.End.TheVariants as ends;
-ghost use Rattle.tl_branch.specs.inner.Learnings.{ArePartLines, HasLine, HasLineOfCut, IsGrown, IsHandled, IsLearning, IsRetried, IsShut, StaysOpen, line_of};
+ghost use Rattle.tl_branch.specs.inner.Learnings.{ArePartLines, HasLine, HasLineOfCut, AreJoinedBut, IsGrown, IsHandled, IsLearning, IsRetried, IsShut, NoOtherLine, NoOtherStandingLine, NoStandingLine, StaysOpen, line_of};
+ghost use Rattle.tl_branch.specs.Learn.{FiresAreNeeded};
 
 use crate::learning::Learning;
 use std::alloc::AllocError;
@@ -20,12 +22,16 @@ impl Learning {
         requires learning { IsLearning problem.now self.old }
         requires going { self.old.done ≡ false }
         requires height { self.old.height ≡ self.old.arena.best.height }
-        requires there { IsZoneOf self.old.arena.trace zone }
+        requires stands { Stands self.old.arena.trace zone }
+        requires joined { AreJoinedBut 0 self.old }
         ensures learning { IfOk result (λ closed. IsLearning problem.now self.new) }
         ensures grown { IfOk result (λ closed. IsGrown self.old self.new) }
         ensures closed { IfOk result (λ closed. closed ≡ true → IsHandled problem.now self.new zone) }
         ensures open { IfOk result (λ closed. closed ≡ false → StaysOpen problem.now self.new zone) }
         ensures going { IfOk result (λ closed. closed ≡ false → self.new.done ≡ false) }
+        ensures alone { IfOk result (λ closed. NoOtherStandingLine zone self.old self.new) }
+        ensures none { IfOk result (λ closed. closed ≡ false → self.new.lines ≡ self.old.lines) }
+        ensures joined { IfOk result (λ closed. self.new.done ≡ false → AreJoinedBut 0 self.new) }
     {
         if self.close_by_bound(problem, zone)? {
             self.climb(problem, zone)?;
@@ -52,6 +58,7 @@ impl Learning {
         ensures closed { IfOk result (λ closed. closed ≡ true → IsShut problem.now self.new zone) }
         ensures open { IfOk result (λ closed. closed ≡ false →
             (self.new ≡ self.old) × HasBoundBelow problem.now self.old.arena.trace zone self.old.height) }
+        ensures alone { IfOk result (λ closed. NoOtherLine zone self.old self.new) }
     {
         let Some(bound) = self.arena.bounds()[zone as usize] else {
             self.put(problem, zone, List::new(self.alloc), End::Cycle)?;
@@ -75,6 +82,8 @@ impl Learning {
         ensures closed { IfOk result (λ closed. closed ≡ true → IsTrue self.new.low_is_high × HasLine self.new.lines.items zone) }
         ensures open { IfOk result (λ closed. closed ≡ false → StaysOpen problem.now self.new zone) }
         ensures going { IfOk result (λ closed. closed ≡ false → self.new.done ≡ false) }
+        ensures alone { IfOk result (λ closed. NoOtherLine zone self.old self.new) }
+        ensures none { IfOk result (λ closed. closed ≡ false → self.new.lines ≡ self.old.lines) }
     {
         if !self.low_is_high {
             return Ok(false);
@@ -95,8 +104,11 @@ impl Learning {
     fn climb(&mut self, problem: &Problem, zone: u32) -> Result<(), AllocError>
         requires learning { IsLearning problem.now self.old }
         requires there { IsZoneOf self.old.arena.trace zone }
+        requires joined { AreJoinedBut zone self.old }
         ensures learning { OnOk result (IsLearning problem.now self.new) }
         ensures grown { OnOk result (IsGrown self.old self.new) }
+        ensures none { OnOk result (NoStandingLine self.old self.new) }
+        ensures joined { OnOk result (self.new.done ≡ false → AreJoinedBut 0 self.new) }
     {
         let mut below = zone;
         'zones: while below > 0 && !self.done {
@@ -118,6 +130,10 @@ impl Learning {
         ensures grown { IfOk result (λ joined. IsGrown self.old self.new) }
         ensures joined { IfOk result (λ joined. HasLine self.old.lines.items (2 * number + 1) →
             HasLine self.old.lines.items (2 * number + 2) → HasLineOfCut self.new number) }
+        ensures line { IfOk result (λ joined. joined ≡ true → HasLineOfCut self.new number) }
+        ensures same { IfOk result (λ joined. joined ≡ false → self.new ≡ self.old) }
+        ensures alone { IfOk result (λ joined. (d : CutAt) →
+            NoOtherLine (get_or self.old.arena.trace number d).zone self.old self.new) }
     {
         let zone = self.arena.trace().as_slice()[number as usize].zone;
         let lower = self.lines[2 * number as usize + 1];
@@ -147,6 +163,8 @@ impl Learning {
         ensures learning { IfOk result (λ fires. IsLearning problem.now self.new) }
         ensures few { IfOk result (λ fires. length fires ≤ 2) }
         ensures good { IfOk result (λ fires. IsGoodLine problem.now self.old.arena.trace self.old.log self.old.height
+            (length self.old.log) (line_of zone fires ends.Fired)) }
+        ensures needed { IfOk result (λ fires. FiresAreNeeded problem.now self.old.arena.trace self.old.log
             (length self.old.log) (line_of zone fires ends.Fired)) }
     {
         let one = self.fires_alone(problem, zone, lower)?;

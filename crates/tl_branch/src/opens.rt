@@ -6,7 +6,7 @@ ghost use Rattle.tl_solve.specs.CutsFound.{IsCutFound};
 ghost use Rattle.tl_solve.specs.Ends.{HasBoundUpTo, MayEnd};
 ghost use Rattle.tl_solve.specs.Solver.{IsSolverOutcome};
 ghost use Rattle.tl_solve.specs.inner.Walk.{KeepsClassOrder};
-ghost use Rattle.tl_branch.specs.Learn.{IsLearnOutcome};
+ghost use Rattle.tl_branch.specs.Learn.{IsLearnOutcome, IsLeastLeft};
 ghost use Rattle.tl_branch.specs.inner.Learnings.{HasLine, IsGrown, IsLearning};
 ghost use Rattle.tl_branch.specs.inner.Opens.{HaveLinesFrom, MayFinish, OpenProve};
 
@@ -42,6 +42,8 @@ impl Learning {
         requires order { KeepsClassOrder problem.now self.arena.trace }
         requires ended { self.height < self.arena.best.height → MayEnd problem.now self.arena.trace self.arena.best.height self.budget }
         requires enough { self.height < self.arena.best.height → HasBoundUpTo problem.now self.arena.trace self.height }
+        requires least { self.height < self.arena.best.height →
+            IsLeastLeft problem.now self.arena.trace self.log self.arena.best.height self.height }
         ensures solved { IsSolverOutcome problem.now self.budget result }
         ensures learnt { IsLearnOutcome problem.now result }
     {

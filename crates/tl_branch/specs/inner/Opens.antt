@@ -1,11 +1,12 @@
 -- No public clause cites this file. What the zones prove that a search leaves without a line.
-use Rattle.std.specs.Prelude.{◌≡◌, ◌⊎◌, ℕ, ◌+◌, ◌*◌, ◌<◌, ◌≤◌, min, List, get_or, length, Option, Some, None}
+use Rattle.std.specs.Prelude.{◌≡◌, ◌⊎◌, ℕ, ◌+◌, ◌*◌, ◌<◌, ◌≤◌, min, false, IsTrue, List, get_or, length, Option, Some, None}
 use Rattle.tl_problem.specs.Problem.{ProblemModel}
 use Rattle.tl_cert.specs.declared.trace.CutAt.{CutAt}
-use Rattle.tl_cert.specs.Traces.{Stands}
+use Rattle.tl_cert.specs.Traces.{Stands, zone_of}
 use Rattle.tl_cert.specs.Worked.{IsBoundOf}
 use Rattle.tl_branch.specs.declared.learning.Learning.{Learning}
-use Rattle.tl_branch.specs.inner.Learnings.{HasLine, IsHandled}
+use Rattle.tl_branch.specs.Learn.{IsAhead, IsNextCut}
+use Rattle.tl_branch.specs.inner.Learnings.{HasLine, IsClosedByBound, IsHandled, log_nogoods}
 
 -- each zone that stands without a line has no widths, or a bound of at least the height
 abbrev pub OpenProve : ProblemModel → List CutAt → List (Option ℕ) → ℕ → Type 0
@@ -39,6 +40,17 @@ pub record IsLeastUpto (cuts lines bounds : List (Option ℕ)) (height upto leas
 abbrev pub HaveLinesFrom : List CutAt → List (Option ℕ) → ℕ → Type 0
 HaveLinesFrom trace lines above = (z : ℕ) → above ≤ z → z < 2 * length trace + 1 → HasLine lines z
 
--- the search may end: it made all cuts of its budget, or each zone that stands was handled
+-- All cuts of the budget are made, and the search stopped at a zone that it would cut next. The zones that are ahead of it have no
+-- lines; where `low` is `high`, each other zone that stands has one, and elsewhere only if its bound closes it.
+pub record IsStopped (problem : ProblemModel) (l : Learning) : Type 0 where
+  pub spent : length l.arena.trace ≡ l.budget
+  pub cut : CutAt
+  pub next : IsTrue l.low_is_high → IsNextCut problem l.arena.trace (log_nogoods problem l) l.arena.best.height cut
+  pub unlined : (z : ℕ) → IsAhead l.arena.trace cut z → HasLine l.lines.items z → ⊥
+  pub ahead : IsTrue l.low_is_high → (z : ℕ) → Stands l.arena.trace z → (HasLine l.lines.items z → ⊥) → IsAhead l.arena.trace cut z
+  pub founded : l.low_is_high ≡ false → (z : ℕ) → Stands l.arena.trace z → HasLine l.lines.items z →
+      IsClosedByBound problem (zone_of problem l.arena.trace z) l.arena.best.height
+
+-- the search may end: it stopped at the end of its budget, or each zone that stands was handled
 abbrev pub MayFinish : ProblemModel → Learning → Type 0
-MayFinish problem l = (length l.arena.trace ≡ l.budget) ⊎ ((z : ℕ) → Stands l.arena.trace z → IsHandled problem l z)
+MayFinish problem l = IsStopped problem l ⊎ ((z : ℕ) → Stands l.arena.trace z → IsHandled problem l z)

@@ -1,5 +1,6 @@
 -- The stack goes on as zones are closed and cut.
 use Rattle.std.proofs.Common.{◌≡◌, ℕ, ◌+◌, ◌*◌, inl, inr, List, [], ◌∷◌, ◌++◌, length, sym, ap, ◌∙◌, subst, arith}
+use Rattle.tl_base.proofs.Members.{Contains-push}
 use Rattle.tl_base.proofs.Options.{match-none}
 use Rattle.tl_problem.specs.Problem.{ProblemModel}
 use Rattle.tl_problem.specs.Zones.{whole_zone}
@@ -10,7 +11,8 @@ use Rattle.tl_solve.proofs.ArenaLaws.{arena-zone}
 use Rattle.tl_solve.proofs.WalkLaws.{top-stands, first-is_cut}
 use Rattle.tl_branch.specs.declared.learning.Learning.{Learning}
 use Rattle.tl_branch.specs.inner.Learnings.{IsSearching}
-use Rattle.tl_branch.proofs.Walk.{search-start, search-grown, search-popped, search-cut, handled-shut, top-unclosed}
+use Rattle.tl_branch.proofs.Walk.{search-start, search-same, search-closed, search-cut, handled-shut, top-stopped, top-unclosed}
+use Rattle.tl_branch.proofs.Closing.{grown-same}
 use Rattle.tl_branch.proofs.learn.LearnSolver.solve.Goals as goal
 
 searching-stands : (problem : ProblemModel) (l : Learning) (stack : List ℕ) (z : ℕ) → IsSearching problem l (stack ++ z ∷ []) →
@@ -32,12 +34,12 @@ loop-zone-init c = record {
   budget = c.in_ok-learning.ensures.start.budget_is;
 }
 
-pub close-requires-clause-there : goal.close-requires-clause-there
-close-requires-clause-there c =
+pub close-requires-clause-stands : goal.close-requires-clause-stands
+close-requires-clause-stands c =
     let p = c.args.problem.now in
     let l = c.loop-zone.learning in
-    (searching-stands p l c.pop.new.self.items c.in-Some.zone
-    (subst (IsSearching p l) c.in-Some.ensures.items c.loop-zone.invariant.searching)).there
+    searching-stands p l c.pop.new.self.items c.in-Some.zone
+    (subst (IsSearching p l) c.in-Some.ensures.items c.loop-zone.invariant.searching)
 
 pub loop-zone-preserved-else-learning : goal.loop-zone-preserved-else-learning
 loop-zone-preserved-else-learning c =
@@ -49,9 +51,8 @@ loop-zone-preserved-else-learning c =
     let is = subst (IsSearching p l) c.in-Some.ensures.items c.loop-zone.invariant.searching in
     let grown = c.in_ok-close.ensures.grown in
     record {
-      searching = search-popped p mid stack z
-          (search-grown p l mid (stack ++ z ∷ []) is c.in_ok-close.ensures.learning grown c.if-learning.false)
-          (c.in_ok-close.ensures.closed c.if-branch.true);
+      searching = search-closed p l mid stack z is grown c.in_ok-close.ensures.alone c.in_ok-close.ensures.learning
+          c.if-learning.false (c.in_ok-close.ensures.closed c.if-branch.true) (c.in_ok-close.ensures.joined c.if-learning.false);
       budget = grown.budget ∙ c.loop-zone.invariant.budget;
     }
 
@@ -65,7 +66,8 @@ first_cut-requires-clause-there c =
     let is = subst (IsSearching p l) c.in-Some.ensures.items c.loop-zone.invariant.searching in
     let going = c.in_ok-close.ensures.going c.if-branch.false in
     (searching-stands p mid stack z
-    (search-grown p l mid (stack ++ z ∷ []) is c.in_ok-close.ensures.learning c.in_ok-close.ensures.grown going)).there
+    (search-same p l mid (stack ++ z ∷ []) is c.in_ok-close.ensures.learning c.in_ok-close.ensures.grown going
+    (c.in_ok-close.ensures.none c.if-branch.false))).there
 
 pub cut-requires-clause-cut : goal.cut-requires-clause-cut
 cut-requires-clause-cut c =
@@ -77,7 +79,8 @@ cut-requires-clause-cut c =
     let is = subst (IsSearching p l) c.in-Some.ensures.items c.loop-zone.invariant.searching in
     let going = c.in_ok-close.ensures.going c.if-branch.false in
     searching-cut p mid stack z
-    (search-grown p l mid (stack ++ z ∷ []) is c.in_ok-close.ensures.learning c.in_ok-close.ensures.grown going)
+    (search-same p l mid (stack ++ z ∷ []) is c.in_ok-close.ensures.learning c.in_ok-close.ensures.grown going
+    (c.in_ok-close.ensures.none c.if-branch.false))
     c.in-Some-first_cut.cut c.in-Some-first_cut.ensures.first c.in-Some-first_cut.ensures.zone
 
 pub cut-requires-clause-going : goal.cut-requires-clause-going
@@ -93,7 +96,8 @@ cut-requires-clause-unclosed c =
     let is = subst (IsSearching p l) c.in-Some.ensures.items c.loop-zone.invariant.searching in
     let going = c.in_ok-close.ensures.going c.if-branch.false in
     top-unclosed p mid stack z
-    (search-grown p l mid (stack ++ z ∷ []) is c.in_ok-close.ensures.learning c.in_ok-close.ensures.grown going)
+    (search-same p l mid (stack ++ z ∷ []) is c.in_ok-close.ensures.learning c.in_ok-close.ensures.grown going
+    (c.in_ok-close.ensures.none c.if-branch.false))
     c.in-Some-first_cut.cut c.in-Some-first_cut.ensures.zone (c.in_ok-close.ensures.open c.if-branch.false)
 
 -- its parts take its place
@@ -110,7 +114,8 @@ loop-zone-preserved-in-Continue-branch-6 c =
     let top = c.in-Some-first_cut.ensures.zone in
     let was = subst (IsSearching p l) c.in-Some.ensures.items c.loop-zone.invariant.searching in
     let going = c.in_ok-close.ensures.going c.if-branch.false in
-    let is = search-grown p l mid (stack ++ z ∷ []) was c.in_ok-close.ensures.learning c.in_ok-close.ensures.grown going in
+    let is = search-same p l mid (stack ++ z ∷ []) was c.in_ok-close.ensures.learning c.in_ok-close.ensures.grown going
+    (c.in_ok-close.ensures.none c.if-branch.false) in
     let off = c.in_ok-cut.ensures.cut in
     let items : c.push-in-Some-first_cut-2.new.self.items ≡ (stack ++ (2 * made + 2) ∷ []) ++ (2 * made + 1) ∷ [] =
     c.in_ok-push-3.ensures.items ∙ ap (λ (s : List ℕ). s ++ (2 * made + 1) ∷ []) c.in_ok-push-2.ensures.items in
@@ -134,13 +139,35 @@ loop-zone-preserved c =
     let z = c.in-Some.zone in
     let was = subst (IsSearching p l) c.in-Some.ensures.items c.loop-zone.invariant.searching in
     let going = c.in_ok-close.ensures.going c.if-branch.false in
-    let is = search-grown p l mid (stack ++ z ∷ []) was c.in_ok-close.ensures.learning c.in_ok-close.ensures.grown going in
+    let is = search-same p l mid (stack ++ z ∷ []) was c.in_ok-close.ensures.learning c.in_ok-close.ensures.grown going
+    (c.in_ok-close.ensures.none c.if-branch.false) in
     record {
-      searching = search-popped p mid stack z is (handled-shut p mid is.learning is.height z
-          (searching-stands p mid stack z is).there (c.in_ok-close.ensures.open c.if-branch.false)
-          c.in_default-first_cut.ensures.closed);
+      searching = search-closed p mid mid stack z is (grown-same mid) (λ y stands apart has. has) is.learning is.going
+          (handled-shut p mid is.learning is.height z (searching-stands p mid stack z is).there
+          (is.unlined z (Contains-push stack z)) (c.in_ok-close.ensures.open c.if-branch.false)
+          c.in_default-first_cut.ensures.closed) is.joined;
       budget = c.in_ok-close.ensures.grown.budget ∙ c.loop-zone.invariant.budget;
     }
+
+-- the budget is spent
+pub finish-requires-then-made-budget-clause-ended : goal.finish-requires-then-made-budget-clause-ended
+finish-requires-then-made-budget-clause-ended c =
+    let p = c.args.problem.now in
+    let l = c.loop-zone.learning in
+    let mid = c.close.new.self in
+    let stack = c.pop.new.self.items in
+    let z = c.in-Some.zone in
+    let was = subst (IsSearching p l) c.in-Some.ensures.items c.loop-zone.invariant.searching in
+    let going = c.in_ok-close.ensures.going c.if-branch.false in
+    let is = search-same p l mid (stack ++ z ∷ []) was c.in_ok-close.ensures.learning c.in_ok-close.ensures.grown going
+    (c.in_ok-close.ensures.none c.if-branch.false) in
+    let cut = c.in-Some-first_cut.cut in
+    let first = c.in-Some-first_cut.ensures.first in
+    let top = c.in-Some-first_cut.ensures.zone in
+    let spent : length mid.arena.trace ≡ mid.budget = sym c.cuts-made.ensures ∙ c.if-made-budget.true
+    ∙ sym (c.in_ok-close.ensures.grown.budget ∙ c.loop-zone.invariant.budget) in
+    λ _. inl (top-stopped p mid stack z is spent cut top (searching-cut p mid stack z is cut first top) first
+    c.in-Some-first_cut.ensures.below (c.in_ok-close.ensures.open c.if-branch.false))
 
 pub finish-requires-2-clause-ended : goal.finish-requires-2-clause-ended
 finish-requires-2-clause-ended c =

@@ -10,6 +10,8 @@ use Rattle.tl_cert.proofs.TraceLaws.{zones-length}
 use Rattle.tl_solve.proofs.ArenaLaws.{arena-item, arena-zone}
 use Rattle.tl_store.specs.Stores.{nogoods_of}
 use Rattle.tl_branch.specs.inner.Learnings.{line_of}
+use Rattle.tl_branch.specs.Learn.{FiresAreNeeded}
+use Rattle.tl_branch.proofs.Fires.{one-needed}
 use Rattle.tl_branch.proofs.Closing.{store-line, closes-kept}
 use Rattle.tl_branch.proofs.learning.Learning.close_by_store.Goals as goal
 
@@ -47,6 +49,16 @@ returns-in_default-clause-open c =
           c.in_default.ensures.closes k (omega (arith, within, c.requires.learning.kept.count))
           (subst (λ (zone : List Range). All (Implied p (InZone p zone)) (get_or (nogoods_of l.store) k [])) (sym at) all);
     }
+
+pub put-requires-clause-needed : goal.put-requires-clause-needed
+put-requires-clause-needed c =
+    let l = c.args.self.now in
+    let number = c.in-Some.number in
+    let fires : c.push.new.self ≡ number ∷ [] = c.in_ok-push.ensures.ok ∙ ap (λ (xs : List ℕ). xs ++ number ∷ [])
+    c.new-fires.ensures in
+    subst (λ (fs : List ℕ). FiresAreNeeded c.args.problem.now l.arena.trace l.log (length l.log)
+    (line_of c.args.zone fs ends.Fired)) (sym fires)
+    (one-needed c.args.problem.now l.arena.trace l.log (length l.log) c.args.zone number)
 
 pub put-requires-clause-good : goal.put-requires-clause-good
 put-requires-clause-good c =

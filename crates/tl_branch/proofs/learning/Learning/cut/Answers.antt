@@ -3,7 +3,7 @@ use Rattle.std.proofs.Common.{ℕ, List, [], ◌∷◌, ◌++◌, Option, None, 
 use Rattle.tl_problem.specs.declared.placed.Placed.{Placed}
 use Rattle.tl_branch.specs.inner.Learnings.{HasLine}
 use Rattle.tl_branch.proofs.Learnings.{learning-cut}
-use Rattle.tl_branch.proofs.Zones.{has-two}
+use Rattle.tl_branch.proofs.Zones.{has-two, two-has}
 use Rattle.tl_branch.proofs.learning.Learning.cut.Goals as goal
 
 pub returns-clause-learning : goal.returns-clause-learning
@@ -26,4 +26,5 @@ returns-clause-cut c =
       going = refl;
       lines = λ z has. subst (λ (lines : List (Option ℕ)). HasLine lines z) (sym items)
           (has-two c.args.self.now.lines.items z has);
+      no_more = λ z has. two-has c.args.self.now.lines.items z (subst (λ (lines : List (Option ℕ)). HasLine lines z) items has);
     }

@@ -32,7 +32,7 @@ finish_with-requires-clause-writable c = subst IsLogWritable (sym c.into_parts-a
 pub returns-clause-learnt : goal.returns-clause-learnt
 returns-clause-learnt c =
     let arena = c.into_parts-arena.ensures.arena in
-    learn-outcome c.args.problem.now c.args.self c.requires.learning c.requires.order c.finish_with.result
+    learn-outcome c.args.problem.now c.args.self c.requires.learning c.requires.order c.requires.least c.finish_with.result
     (c.finish_with.ensures.best ∙ ap (λ (a : Arena). a.best) arena)
     (c.finish_with.ensures.trace ∙ ap (λ (a : Arena). a.trace) arena)
-    (c.finish_with.ensures.log ∙ c.into_parts-arena.ensures.log)
+    (c.finish_with.ensures.log ∙ c.into_parts-arena.ensures.log) c.finish_with.ensures.lower

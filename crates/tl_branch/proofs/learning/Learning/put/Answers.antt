@@ -2,19 +2,26 @@
 use Rattle.std.proofs.Common.{◌≡◌, ◌<◌, ◌↔◌, IsTrue, List, [], length, Some, None, refl, sym, ◌∙◌, subst, arith}
 use Rattle.std.proofs.lemmas.List.{get_or-set_same}
 use Rattle.tl_cert.specs.declared.log.Bound.{Bound}
+use Rattle.tl_cert.specs.declared.log.LogLine.{LogLine}
 use Rattle.tl_cert.specs.declared.trace.CutAt.{CutAt}
+use Rattle.tl_cert.specs.Learnt.{nogoods_in}
 use Rattle.tl_cert.specs.Nogoods.{nogood_bounds}
 use Rattle.tl_cert.specs.Traces.{IsTraceOf}
 use Rattle.tl_store.specs.Shrunk.{IsShrunk}
 use Rattle.tl_store.specs.Stores.{IsAddedNogood, nogoods_of}
+use Rattle.tl_branch.specs.Learn.{IsUnclosed}
 use Rattle.tl_branch.specs.inner.Learnings.{line_of}
-use Rattle.tl_branch.proofs.Learnings.{learning-old, learning-new}
-use Rattle.tl_branch.proofs.Zones.{has-set, none-there, some-there}
+use Rattle.tl_branch.proofs.Closing.{grown-same}
+use Rattle.tl_branch.proofs.Learnings.{learning-old, learning-new, unclosed-line}
+use Rattle.tl_branch.proofs.Zones.{has-set, has-other, none-there, some-there}
 use Rattle.tl_branch.proofs.learning.Learning.put.Goals as goal
 
 pub returns-then-is_some-clause-line : goal.returns-then-is_some-clause-line
 returns-then-is_some-clause-line c = some-there c.args.self.now.lines.items c.args.zone c.index.result.now
     (omega (arith, c.requires.learning.lines.count, c.requires.there)) c.index.ensures (sym c.is_some.ensures ∙ c.if-is_some.true)
+
+pub returns-then-is_some-clause-grown : goal.returns-then-is_some-clause-grown
+returns-then-is_some-clause-grown c = grown-same c.args.self.now
 
 pub add-requires-clause-trace : goal.add-requires-clause-trace
 add-requires-clause-trace c = subst (IsTraceOf c.args.problem.now) (sym c.trace-trace.ensures)
@@ -37,7 +44,8 @@ returns-then-number-len-clause-learning c =
     c.in_ok-number.number) c.trace-trace.ensures (subst (λ (olds : List (List Bound)). IsAddedNogood olds (nogoods_of c.add.new.self)
     (nogood_bounds p c.trace-trace.result.now new.nogood) c.in_ok-number.number) c.in_ok-new.ensures.kept
     c.in_ok-number.ensures.added) in
-    learning-old p l is z c.requires.there c.args.fires c.args.end c.requires.fires new c.requires.good shrunk c.add.new.self
+    learning-old p l is z c.requires.there c.args.fires c.args.end c.requires.fires new c.requires.good shrunk c.requires.fired
+    c.requires.needed c.add.new.self
     c.in_ok-number.ensures.store (c.in_ok-number.ensures.stays l.budget (c.in_ok-new.ensures.stays l.budget is.reserved))
     c.in_ok-number.number added
     (none-there l.lines.items z c.index.result.now within c.index.ensures (sym c.is_some.ensures ∙ c.if-is_some.false)) within
@@ -54,7 +62,12 @@ returns-then-number-len-clause-grown c =
       budget = refl;
       height = refl;
       lines = λ y has. has-set c.args.self.now.lines.items c.args.zone c.in_ok-number.number y within has;
+      unclosed = λ p cut was. was;
     }
+
+pub returns-then-number-len-clause-alone : goal.returns-then-number-len-clause-alone
+returns-then-number-len-clause-alone c = λ y apart has. has-other c.args.self.now.lines.items c.args.zone c.in_ok-number.number y
+    apart has
 
 pub returns-then-number-len-clause-line : goal.returns-then-number-len-clause-line
 returns-then-number-len-clause-line c = (
@@ -84,7 +97,8 @@ returns-clause-learning c =
     c.in_ok-number.number) c.trace-trace.ensures (subst (λ (olds : List (List Bound)). IsAddedNogood olds (nogoods_of c.add.new.self)
     (nogood_bounds p c.trace-trace.result.now new.nogood) c.in_ok-number.number) c.in_ok-new.ensures.kept
     c.in_ok-number.ensures.added) in
-    learning-new p l is z c.requires.there c.args.fires c.args.end c.requires.fires new c.requires.good shrunk c.add.new.self
+    learning-new p l is z c.requires.there c.args.fires c.args.end c.requires.fires new c.requires.good shrunk c.requires.fired
+    c.requires.needed c.add.new.self
     c.in_ok-number.ensures.store (c.in_ok-number.ensures.stays l.budget (c.in_ok-new.ensures.stays l.budget is.reserved))
     c.in_ok-number.number added
     (none-there l.lines.items z c.index.result.now within c.index.ensures (sym c.is_some.ensures ∙ c.if-is_some.false)) within
@@ -103,7 +117,14 @@ returns-clause-grown c =
       budget = refl;
       height = refl;
       lines = λ y has. has-set c.args.self.now.lines.items c.args.zone c.in_ok-number.number y within has;
+      unclosed = λ p cut was.
+          let l = c.args.self.now in
+          subst (λ (log : List LogLine). IsUnclosed p (nogoods_in p l.arena.trace log) l.arena.trace cut)
+          (sym c.in_ok-push.ensures.ok) (unclosed-line c.args.problem.now l c.requires.learning p c.in_ok-new.new cut was);
     }
+
+pub returns-clause-alone : goal.returns-clause-alone
+returns-clause-alone c = λ y apart has. has-other c.args.self.now.lines.items c.args.zone c.in_ok-number.number y apart has
 
 pub returns-clause-line : goal.returns-clause-line
 returns-clause-line c = (
