@@ -1,11 +1,13 @@
 -- Where the choice on the narrowest page is left open, the budget of each search is below the counts of that page, and of each
 -- wider one: else all sections would be closed, the table's problem the true one, and its count within the budget.
-use Rattle.std.proofs.Common.{◌≡◌, ◌⊎◌, inl, inr, ℕ, ◌+◌, ◌<◌, ◌≤◌, get_or, length, take, refl, subst, arith}
+use Rattle.std.proofs.Common.{◌≡◌, ◌⊎◌, inl, inr, ℕ, ◌+◌, ◌<◌, ◌≤◌, List, get_or, length, take, refl, ap, subst, arith}
 use Rattle.std.proofs.lemmas.Bool.{cases_lt}
+use Rattle.std.proofs.lemmas.List.Elements.{All-contains, All-from_recursion}
 use Rattle.std.specs.List.{All}
+use Rattle.tl_base.specs.declared.steps.Config.{Config}
 use Rattle.tl_base.specs.declared.limits.TheConstants.{MAX_PAGE_WIDTH, MAX_REACH}
 use Rattle.tl_base.specs.declared.style.Style.{Style}
-use Rattle.tl_problem.specs.Agreement.{LowIsHigh}
+use Rattle.tl_base.specs.Steps.{height_at}
 use Rattle.tl_problem.specs.Problem.{ProblemModel}
 use Rattle.tl_problem.specs.Spans.{count_of}
 use Rattle.tl_cert.specs.declared.certificate.Certificate.{Certificate}
@@ -19,19 +21,27 @@ use Rattle.tl_form.specs.CountLaws.{AllCountsRise, CountsExist, CountsRise}
 use Rattle.tl_form.specs.Expected.{Document}
 use Rattle.tl_form.specs.Problems.{IsCountAll, IsTrueProblem}
 use Rattle.tl_form.specs.Valid.{AreGoodBelow}
-use Rattle.tl_form.proofs.ClosedLaws.{bounds_meet, low_is_high}
+use Rattle.tl_form.proofs.ClosedLaws.{bounds_meet}
 use Rattle.tl_form.proofs.Coverage.{Stands, stands}
 use Rattle.tl_form.proofs.DueProblems.{IsOnPage, good_follows, leasts, on_page, some_number}
 use Rattle.tl_form.proofs.NamedSteps.{by_low, by_high}
-use Rattle.tl_form.proofs.ProblemTruth.{is-true}
+use Rattle.tl_form.proofs.ProblemTruth.{is-true, true-low-is-high}
 use Rattle.tl_form.proofs.Truth.{Fits-wider, IsTrue, all_true, high_is_above, low_is_below}
 use Rattle.tl_form.proofs.ValidLaws.{no_section}
 use Rattle.tl_narrow.specs.Slimmest.{IsBelowCounts}
 use Rattle.tl_narrow.specs.Slims.{IsLowCertificate}
+use Rattle.tl_tidy.specs.Agreement.{HasSameSteps}
 use Rattle.tl_program.specs.declared.task.Task.{Task}
 use Rattle.tl_program.specs.Answers.{budget_in}
 use Rattle.tl_program.specs.Tidied.{IsLeftOpen, IsOwnProblem}
 use Rattle.tl_program.proofs.ChosenLaid as laid
+
+-- in a true problem each cell has the same steps by both bounds
+same_steps : (table : Table) (style : Style) (page : ℕ) (problem : ProblemModel) → IsTrueProblem table style page problem →
+    HasSameSteps problem
+same_steps table style page problem is cell has w within =
+    ap (λ (steps : List Config). height_at steps w) (All-contains (λ each. each.low ≡ each.high) problem.cells cell
+    (All-from_recursion (λ each. each.low ≡ each.high) problem.cells (true-low-is-high table style page problem is)) has)
 
 module _ (table : Table) (style : Style) (height width budget : ℕ) (sound : IsSound table) (c : Certificate)
     (low : IsLowCertificate table style height width budget c) (narrow : width ≤ MAX_PAGE_WIDTH) where
@@ -88,20 +98,20 @@ module _ (table : Table) (style : Style) (height width budget : ℕ) (sound : Is
       (is : IsOwnProblem table style c problem) where
     -- with a budget of the greatest count the choice is made
     never_enough : (most : ℕ) → IsCountAll table style width most → most ≤ budget →
-        (LowIsHigh problem → ⊥) ⊎ (budget < count_of problem) → ⊥
+        (HasSameSteps problem → ⊥) ⊎ (budget < count_of problem) → ⊥
     never_enough most counted enough left = by_left left where
       real : IsTrueProblem table style width problem
       real = closed_true problem is (closes table style width budget most n document c.sections wide_document counted enough
           (omega (arith, cuts)) (omega (arith, last)) good_before)
 
-      by_left : (LowIsHigh problem → ⊥) ⊎ (budget < count_of problem) → ⊥
-      by_left (inl differ) = differ (low_is_high table style width problem real)
+      by_left : (HasSameSteps problem → ⊥) ⊎ (budget < count_of problem) → ⊥
+      by_left (inl differ) = differ (same_steps table style width problem real)
       by_left (inr less) =
           let many = counted.never_more table (inl refl) in
           let few = rise table style width width (count_of problem) many.0 (omega arith) (problem, real, refl) many.1 in
           absurd (omega (arith, less, few, many.2, enough))
 
-    pub open_below : (LowIsHigh problem → ⊥) ⊎ (budget < count_of problem) → (page : ℕ) → width ≤ page →
+    pub open_below : (HasSameSteps problem → ⊥) ⊎ (budget < count_of problem) → (page : ℕ) → width ≤ page →
         IsBelowCounts table style page budget
     open_below left page from =
         let few = counts table style width lines layout sound fits in
@@ -114,6 +124,6 @@ module _ (table : Table) (style : Style) (height width budget : ℕ) (sound : Is
 
 -- what is left open, without the need
 pub differ_or_less : (task : Task) (table : Table) (height : ℕ) (problem : ProblemModel) → IsLeftOpen task table height problem →
-    (LowIsHigh problem → ⊥) ⊎ (budget_in task table < count_of problem)
+    (HasSameSteps problem → ⊥) ⊎ (budget_in task table < count_of problem)
 differ_or_less task table height problem (inl differ) = inl differ
 differ_or_less task table height problem (inr both) = inr both.1

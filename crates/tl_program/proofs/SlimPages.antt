@@ -62,19 +62,29 @@ drawn_low task table height width lines certificate layout (Ok page) low named f
 drawn_low task table height width lines certificate layout (Err error) low named fits is_page = tt
 
 -- what the search that is named tells, of the budget of each search for the table
-pub slim_by : (task : Task) (table : Table) (height budget : ℕ) (handed : Option Certificate) (search : Search)
-    (result : Result Slim AllocError) → search ≡ task.search → budget ≡ budget_in task table →
-    IfOk result (IsSlim table task.style height task.width budget) →
-    IfOk result (AreSearched (λ width certificate. AreSectionsOf (IsOutcomeOf search task.workers budget) table task.style width budget
-    certificate.sections) task.width handed) → IfOk result (IsSlimIn task table height handed)
-slim_by task table height budget handed search (Ok slim) named cuts tells by = record {
-  tells = subst (λ (b : ℕ). IsSlim table task.style height task.width b slim) cuts tells;
-  by = subst (λ (s : Search). AreSearched (λ width certificate. AreSectionsOf (IsOutcomeOf s task.workers (budget_in task table)) table
-      task.style width (budget_in task table) certificate.sections) task.width handed slim) named
-      (subst (λ (b : ℕ). AreSearched (λ width certificate. AreSectionsOf (IsOutcomeOf search task.workers b) table task.style width b
-      certificate.sections) task.width handed slim) cuts by);
-}
-slim_by task table height budget handed search (Err error) named cuts tells by = tt
+module _ (task : Task) (table : Table) (height budget : ℕ) (handed : Option Certificate) where
+  -- the sections of the certificate are those of a search of this kind, with this budget, on a page of so many columns
+  abbrev Searched : Search → ℕ → ℕ → Certificate → Type 0
+  Searched search cuts width certificate =
+      AreSectionsOf (IsOutcomeOf search task.workers cuts) table task.style width cuts certificate.sections
+
+  -- the trials that are due, by such searches
+  abbrev Ordered : Search → ℕ → Slim → Type 0
+  Ordered search cuts slim = (own : ℕ) → IsLeastWidth table task.style own → IsBisection (Searched search cuts) table task.style
+      height task.width cuts handed own slim.least slim.width
+
+  pub slim_by : (search : Search) (result : Result Slim AllocError) → search ≡ task.search → budget ≡ budget_in task table →
+      IfOk result (IsSlim table task.style height task.width budget) →
+      IfOk result (AreSearched (Searched search budget) task.width handed) → IfOk result (Ordered search budget) →
+      IfOk result (IsSlimIn task table height handed)
+  slim_by search (Ok slim) named cuts tells by order = record {
+    tells = subst (λ (b : ℕ). IsSlim table task.style height task.width b slim) cuts tells;
+    by = subst (λ (s : Search). AreSearched (Searched s (budget_in task table)) task.width handed slim) named
+        (subst (λ (b : ℕ). AreSearched (Searched search b) task.width handed slim) cuts by);
+    order = subst (λ (s : Search). Ordered s (budget_in task table) slim) named
+        (subst (λ (b : ℕ). Ordered search b slim) cuts order);
+  }
+  slim_by search (Err error) named cuts tells by order = tt
 
 -- ---- a page that was handed in
 

@@ -3,7 +3,6 @@ use Rattle.std.proofs.Common.{◌≡◌, ◌≢◌, ◌∙◌, inr, ℕ, ◌<◌
 use Rattle.std.specs.Prelude.{MatchOption}
 use Rattle.tl_base.specs.declared.limits.TheConstants.{MAX_HEIGHT}
 use Rattle.tl_problem.specs.declared.placed.Placed.{Placed}
-use Rattle.tl_problem.specs.Agreement.{LowIsHigh}
 use Rattle.tl_problem.specs.Problem.{ProblemModel}
 use Rattle.tl_problem.specs.Spans.{count_of}
 use Rattle.tl_problem.proofs.TightLaws.{tight-is_tight}
@@ -24,6 +23,7 @@ use Rattle.tl_narrow.specs.Slimmest.{ClaimsLow}
 use Rattle.tl_narrow.specs.Slims.{IsKept, IsLowCertificate, IsSlim}
 use Rattle.tl_tidy.specs.declared.choice.Choice.{Choice}
 use Rattle.tl_tidy.specs.declared.choice.Choice.TheVariants.{Found, Open}
+use Rattle.tl_tidy.specs.Agreement.{HasSameSteps}
 use Rattle.tl_tidy.specs.Choices.{IfFound, IfOpen}
 use Rattle.tl_tidy.specs.Classes.{IsChosen}
 use Rattle.tl_tidy.specs.Needs.{IsNeedAbove, IsNeedWithin}
@@ -43,13 +43,13 @@ use Rattle.tl_narrow.proofs.Certifying.{claimed_height, valid, writable}
 -- ---- the choice
 
 pub found_here : (task : Task) (table : Table) (height budget : ℕ) (problem : ProblemModel) (choice : Choice) (placed : Placed) →
-    budget ≡ budget_in task table → choice ≡ Found placed → LowIsHigh problem → IfFound (IsChosen problem height) choice →
+    budget ≡ budget_in task table → choice ≡ Found placed → HasSameSteps problem → IfFound (IsChosen problem height) choice →
     IfFound (λ one. one.height ≤ height) choice → IfFound (λ one. IsNeedWithin problem height budget) choice →
     HasWidths task table height problem placed.widths
-found_here task table height budget problem choice placed cuts is agree found low enough = record {
+found_here task table height budget problem choice placed cuts is same found low enough = record {
   placed = placed;
   within = record {
-    agree = agree;
+    same = same;
     enough = subst (IsNeedWithin problem height) cuts
         (subst (IfFound (λ (one : Placed). IsNeedWithin problem height budget)) is enough);
     chosen = subst (IfFound (IsChosen problem height)) is found;

@@ -8,10 +8,12 @@ use Rattle.tl_command.specs.Ask.{Asked}
 use Rattle.tl_table.specs.declared.cell.Table.{Table}
 use Rattle.tl_table.specs.declared.layout.Layout.{Layout}
 use Rattle.tl_table.specs.Layouts.{Fits}
+use Rattle.tl_table.specs.Least.{IsLeastWidth}
 use Rattle.tl_form.specs.Named.{IsNamed}
 use Rattle.tl_nested.specs.Searched.{AreSectionsOf}
 use Rattle.tl_narrow.specs.declared.slim.Slim.{Slim}
 use Rattle.tl_narrow.specs.Slims.{AreSearched, IsSlim}
+use Rattle.tl_narrow.specs.Trials.{IsBisection}
 use Rattle.tl_program.specs.declared.report.Report.{Report}
 use Rattle.tl_program.specs.declared.report.Report.TheVariants as reports
 use Rattle.tl_program.specs.declared.task.Task.{Task}
@@ -27,11 +29,18 @@ abbrev pub IsSearchedOn : Task → Table → ℕ → Certificate → Type 0
 IsSearchedOn task table width certificate = AreSectionsOf (IsOutcomeOf task.search task.workers (budget_in task table)) table task.style width
     (budget_in task table) certificate.sections
 
+-- the search came to these two widths by the trials that were due: the widest page first, unless its certificate is handed in, and
+-- then always the page in the middle; the first of the two begins with the least width of the table
+abbrev pub ComesOfTrials : Task → Table → ℕ → Option Certificate → ℕ → ℕ → Type 0
+ComesOfTrials task table height handed least width = (own : ℕ) → IsLeastWidth table task.style own →
+    IsBisection (IsSearchedOn task table) table task.style height task.width (budget_in task table) handed own least width
+
 -- what the search for the narrowest page of at most `height` lines tells, among the pages of up to as many columns as the task
--- allows, and by which searches; of the widest one the certificate is handed in, where there is one
+-- allows, by which searches, and in which order of trials; of the widest one the certificate is handed in, where there is one
 pub record IsSlimIn (task : Task) (table : Table) (height : ℕ) (handed : Option Certificate) (slim : Slim) : Type 0 where
   pub tells : IsSlim table task.style height task.width (budget_in task table) slim
   pub by : AreSearched (IsSearchedOn task table) task.width handed slim
+  pub order : ComesOfTrials task table height handed slim.least slim.width
 
 -- a width that is not 0
 abbrev pub found_width : ℕ → Option ℕ

@@ -68,10 +68,22 @@ pub(crate) fn problem(
     width: u32,
     cells: List<Cell>,
 ) -> Result<Problem, Fail> {
-    if !Problem::is_sound(cols, rows, Style::Plain, width, cells.as_slice()) {
+    styled(alloc, cols, rows, Style::Plain, width, cells)
+}
+
+/// The problem, where it is sound.
+pub(crate) fn styled(
+    alloc: Global,
+    cols: u32,
+    rows: u32,
+    style: Style,
+    width: u32,
+    cells: List<Cell>,
+) -> Result<Problem, Fail> {
+    if !Problem::is_sound(cols, rows, style, width, cells.as_slice()) {
         return Err("the cells are no sound problem".into());
     }
-    Ok(Problem::new(alloc, cols, rows, Style::Plain, width, cells)?)
+    Ok(Problem::new(alloc, cols, rows, style, width, cells)?)
 }
 
 /// Four columns on a page of 25: `a a`, `b b` and a `c` of two lines in the upper row; `p`, `q`,

@@ -1,3 +1,4 @@
+pub mod Agreement
 pub mod Classes
 pub mod Needs
 pub mod Choices

@@ -1,20 +1,23 @@
-//! Whether the cells of a problem need the same by `low` and by `high`.
+//! Whether the cells of a problem have the same steps by `low` and by `high`.
 
 ghost use Rattle.std.specs.Prelude.{◌≡◌, ◌≤◌, ◌↔◌, IsTrue};
 ghost use Rattle.std.specs.List.{All};
 ghost use Rattle.tl_base.specs.Steps.{height_at};
 ghost use Rattle.tl_problem.specs.Agreement.{LowIsHigh};
+ghost use Rattle.tl_tidy.specs.Agreement.{HasSameSteps};
 ghost use Rattle.tl_tidy.specs.inner.Looks.{AreSameAt, AreSameUpTo};
 
 use tl_base::{Config, Steps};
 use tl_problem::Problem;
 
-/// Whether each cell needs the same by `low` and by `high` at all widths that the page has room
-/// for, as `choose` asks. No memory is taken.
+/// Whether each cell has the same steps by `low` and by `high`, at all widths up to the page's: also
+/// at the last ones of a page with edges, which no room reaches. Then each cell needs the same by
+/// both in any room, as `choose` asks. No memory is taken.
 pub fn steps_agree(problem: &Problem) -> bool
-    ensures { IsTrue result ↔ LowIsHigh problem.now }
+    ensures same { IsTrue result ↔ HasSameSteps problem.now }
+    ensures agree { IsTrue result → LowIsHigh problem.now }
 {
-    let most = problem.width().saturating_sub(2 * problem.style().edge());
+    let most = problem.width();
     let cells = problem.cells();
     for number in 0..cells.len() {
         let cell = &cells[number];

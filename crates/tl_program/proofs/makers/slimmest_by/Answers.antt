@@ -4,17 +4,22 @@ use Rattle.tl_program.proofs.SlimPages.{handed_found, slim_by}
 use Rattle.tl_program.proofs.makers.slimmest_by.Goals as goal
 
 pub returns-in-Plain-clause-slim : goal.returns-in-Plain-clause-slim
-returns-in-Plain-clause-slim g c = slim_by c.args.task.now c.args.table.now c.args.height c.args.budget c.args.kept _ c.slimmest.result
-    (sym c.in-Plain.is) c.requires.usable.of_task c.slimmest.ensures.slim c.slimmest.ensures.searched
+returns-in-Plain-clause-slim g c =
+    let found = c.slimmest.ensures in
+    slim_by c.args.task.now c.args.table.now c.args.height c.args.budget c.args.kept _ c.slimmest.result
+    (sym c.in-Plain.is) c.requires.usable.of_task found.slim found.searched found.order
 
 pub returns-in-Best-clause-slim : goal.returns-in-Best-clause-slim
-returns-in-Best-clause-slim g c = slim_by c.args.task.now c.args.table.now c.args.height c.args.budget c.args.kept _ c.slimmest-in-Best.result
-    (sym c.in-Best.is) c.requires.usable.of_task c.slimmest-in-Best.ensures.slim c.slimmest-in-Best.ensures.searched
+returns-in-Best-clause-slim g c =
+    let found = c.slimmest-in-Best.ensures in
+    slim_by c.args.task.now c.args.table.now c.args.height c.args.budget c.args.kept _ c.slimmest-in-Best.result
+    (sym c.in-Best.is) c.requires.usable.of_task found.slim found.searched found.order
 
 pub returns-in-Learn-clause-slim : goal.returns-in-Learn-clause-slim
-returns-in-Learn-clause-slim g c = slim_by c.args.task.now c.args.table.now c.args.height c.args.budget c.args.kept _
-    c.slimmest-in-Learn.result
-    (sym c.in-Learn.is) c.requires.usable.of_task c.slimmest-in-Learn.ensures.slim c.slimmest-in-Learn.ensures.searched
+returns-in-Learn-clause-slim g c =
+    let found = c.slimmest-in-Learn.ensures in
+    slim_by c.args.task.now c.args.table.now c.args.height c.args.budget c.args.kept _ c.slimmest-in-Learn.result
+    (sym c.in-Learn.is) c.requires.usable.of_task found.slim found.searched found.order
 
 pub returns-in-Plain-clause-handed : goal.returns-in-Plain-clause-handed
 returns-in-Plain-clause-handed g c = handed_found c.args.task.now c.args.table.now c.args.height c.args.budget c.args.kept _

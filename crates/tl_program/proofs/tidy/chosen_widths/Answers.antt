@@ -45,7 +45,7 @@ returns-then-not-steps_agree c =
           section
           (subst (λ (all : List Section). section ≡ get_or all (length all - 1) section) c.as_slice-sections.ensures
           c.index-sections-own.is) c.unwrap-laid.result both,
-      inl (λ agree. let yes = c.steps_agree.ensures.1 agree in absurd cc),
+      inl (λ same. let yes = c.steps_agree.ensures.same.1 same in absurd cc),
     )
 
 pub choose-requires-clause-some : goal.choose-requires-clause-some
@@ -83,7 +83,7 @@ returns-in-Found c =
           (subst (λ (all : List Section). section ≡ get_or all (length all - 1) section) c.as_slice-sections.ensures
           c.index-sections-own.is) c.unwrap-laid.result both,
       found_here c.args.task.now table c.args.height c.args.budget c.unwrap-laid.result.problem c.in_ok-placed.field-0
-          c.in-Found.placed c.requires.usable.of_task c.in-Found.is (c.steps_agree.ensures.0 c.if-not-steps_agree.false)
+          c.in-Found.placed c.requires.usable.of_task c.in-Found.is (c.steps_agree.ensures.same.0 c.if-not-steps_agree.false)
           c.in_ok-placed.ensures.found c.in_ok-placed.ensures.low c.in_ok-placed.ensures.enough,
     )
 
