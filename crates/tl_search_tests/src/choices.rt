@@ -147,13 +147,7 @@ fn one_layout_needs_no_cut(rt: HostRuntime) -> Result<(), Fail> {
 }
 
 /// One cell that has two lines by `low` and by `high` up to a width, and one line from there on.
-fn one_cell(
-    alloc: Global,
-    style: Style,
-    width: u32,
-    low: u32,
-    high: u32,
-) -> Result<Problem, Fail> {
+fn one_cell(alloc: Global, style: Style, width: u32, low: u32, high: u32) -> Result<Problem, Fail> {
     let mut cells = List::new(alloc);
     let low = [config(1, 2), config(low, 1)];
     let high = [config(1, 2), config(high, 1)];
