@@ -24,8 +24,8 @@ use Rattle.tl_program.specs.Deliveries.{reported, ComesOfInput, IsUnread}
 use Rattle.tl_program.specs.Inputs.{IsOfFile}
 use Rattle.tl_program.specs.Tasks.{task_of}
 use Rattle.tl_program.specs.inner.Printing.{IsDelivered}
-use Rattle.tl_program.specs.inner.Steps.{GivesInput, GoesOn, IsJudgedOn, ReportsOn}
-use Rattle.tl_program.proofs.Inputs.{content_of, long_same, of_bytes_mapped, of_content}
+use Rattle.tl_program.specs.inner.Steps.{GivesInput, GoesOnReading, IsJudgedOn, ReportsOn}
+use Rattle.tl_program.proofs.Inputs.{content_of, long_same, of_bytes_mapped, of_content, own_or_refused}
 use Rattle.tl_program.proofs.Loading.{of_given_table}
 
 -- why a text that is too long is rejected
@@ -105,15 +105,18 @@ module _ (asked : Asked) (task : Task) (files : Option Files) (name bytes : List
       (λ table judged. subst (λ (n : List ℕ). IsJudgedIn task table files n report) same
       (judged_in task table files second text report few loaded judged)) report reports)
 
-  -- where the second could not be, the first is refused, or nothing is reported but that
+  -- where the second could not be, the first is refused, or that is reported
   pub unread_on : (Rises : Type 0) (result : Result Report AllocError) → Rises →
-      IfOk result (λ report. (report ≡ reports.ReadFault) ⊎ ReportsOn task (λ table. ⊥) bytes report) →
+      IfOk result (λ report. ReportsOn task (λ table. report ≡ reports.ReadFault) bytes report) →
       IfOk result (λ report. ((report ≡ reports.ReadFault) × Rises) ⊎ IsJudgedOn task asked files report)
-  unread_on Rises (Err failed) rises reports = tt
-  unread_on Rises (Ok report) rises (inl fault) = inl (fault, rises)
-  unread_on Rises (Ok report) rises (inr refused) =
-      inr (on_file (λ table. ⊥) (λ table. IsJudgedIn task table files (judged_name asked) report) (λ table never. absurd never)
-      report refused)
+  unread_on Rises (Err failed) rises told = tt
+  unread_on Rises (Ok report) rises told = elim
+      (own_or_refused task.source (reach task) (λ refusal. report ≡ reports.Refused refusal) (report ≡ reports.ReadFault) bytes
+      told) [
+        | inl fault ↦ inl (fault, rises)
+        | inr refused ↦ inr (on_file (λ table. ⊥) (λ table. IsJudgedIn task table files (judged_name asked) report)
+            (λ table never. absurd never) report refused)
+      ]
 
 -- what is found of a table is what is reported of its bytes
 pub judged_of_table : (task : Task) (bytes text : List ℕ) (input : Input) (table : Table) (budget : ℕ)
@@ -130,7 +133,7 @@ judged_of_table task bytes text input table budget (Ok report) is given judged =
 pub checked_goes_on : (asked : Asked) (task : Task) (table : Table) (change : Change) (name : List ℕ) (middle : ℕ)
     (report : Report) (result : Status) → task ≡ task_of asked → name ≡ judged_name asked → change.load_faults_after ≡ middle →
     ((report ≡ reports.ReadFault) × Rose change.load_faults middle) ⊎ IsJudgedIn task table change.files name report →
-    IsDelivered result change (reported report) → GoesOn (IsChecked asked change.files table) result change
+    IsDelivered result change (reported report) → GoesOnReading (IsChecked asked change.files table) result change
 checked_goes_on asked task table change name middle report result same called count found delivered =
     inl (reported report, own found, delivered) where
       own : ((report ≡ reports.ReadFault) × Rose change.load_faults middle) ⊎ IsJudgedIn task table change.files name report →

@@ -1,5 +1,5 @@
 -- What was loaded of a file is read as the file is, and what comes of it is decided by what the file spells.
-use Rattle.std.proofs.Common.{◌≡◌, inl, inr, ℕ, ◌+◌, ◌<◌, ◌≤◌, List, length, take, Option, Some, None, refl, sym, ap, subst, ◌∙◌}
+use Rattle.std.proofs.Common.{◌≡◌, ◌⊎◌, inl, inr, ℕ, ◌+◌, ◌<◌, ◌≤◌, List, length, take, Option, Some, None, refl, sym, ap, subst, ◌∙◌}
 use Rattle.std.proofs.Common.{arith}
 use Rattle.std.specs.Prelude.{IfSome, option_map}
 use Rattle.std.proofs.lemmas.List.{take_all, length-take}
@@ -109,3 +109,23 @@ of_bytes_mapped source reach Refuses Passes Own Other passed owned bytes of = re
   by_reading (readings.Refused refusal) so = passed refusal so
   by_reading (readings.Table table) (inl far) = inl (far.0, passed _ far.1)
   by_reading (readings.Table table) (inr own) = inr (own.0, owned table own.1)
+
+-- where what comes of a table is the same for each, it is so, or the bytes are refused
+pub own_or_refused : (source : Source) (reach : Table → ℕ) (Refuses : Refusal → Type 0) (Own : Type 0) (bytes : List ℕ) →
+    IsOfBytes source reach Refuses (λ table. Own) bytes → Own ⊎ IsOfBytes source reach Refuses (λ table. ⊥) bytes
+own_or_refused source reach Refuses Own bytes of = elim (by_reading of.reading of.so) [
+  | inl own ↦ inl own
+  | inr refused ↦ inr (record {
+    reading = of.reading;
+    read = of.read;
+    only = of.only;
+    sound = of.sound;
+    spellable = of.spellable;
+    so = refused;
+  })
+] where
+  by_reading : (reading : Reading) → IsOfReading reach Refuses (λ table. Own) reading →
+      Own ⊎ IsOfReading reach Refuses (λ table. ⊥) reading
+  by_reading (readings.Refused refusal) so = inr so
+  by_reading (readings.Table table) (inl far) = inr (inl far)
+  by_reading (readings.Table table) (inr own) = inl own.1

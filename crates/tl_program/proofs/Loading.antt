@@ -23,7 +23,7 @@ use Rattle.tl_program.specs.Inputs.{IsOfBytes}
 use Rattle.tl_program.specs.Messages.{status_number}
 use Rattle.tl_program.specs.Tasks.{task_on}
 use Rattle.tl_program.specs.inner.Printing.{IsDelivered}
-use Rattle.tl_program.specs.inner.Steps.{GivesInput, GivesRefusal, GivesTable, GoesOn, IsLoaded}
+use Rattle.tl_program.specs.inner.Steps.{GivesInput, GivesRefusal, GivesTable, GoesOn, GoesOnReading, IsLoaded}
 use Rattle.tl_program.proofs.Ends.{delivered_ends, ends_memory}
 use Rattle.tl_program.proofs.Inputs.{content_of, of_bytes_mapped, of_content}
 use Rattle.tl_program.proofs.Storing.{delivered_from}
@@ -56,13 +56,13 @@ loaded_as task other asked files faults faults_after input =
 -- ---- one input
 
 -- a table is no report
-no_report : (table : Table) (budget : ℕ) (report : Report) → inputs.Table table budget ≡ inputs.Reported report → ⊥
+pub no_report : (table : Table) (budget : ℕ) (report : Report) → inputs.Table table budget ≡ inputs.Reported report → ⊥
 no_report table budget report e = absurd cc
 
-one_report : (one other : Report) → inputs.Reported one ≡ inputs.Reported other → one ≡ other
+pub one_report : (one other : Report) → inputs.Reported one ≡ inputs.Reported other → one ≡ other
 one_report one other e = cc
 
-one_table : (one other : Table) (budget another : ℕ) → inputs.Table one budget ≡ inputs.Table other another → one ≡ other
+pub one_table : (one other : Table) (budget another : ℕ) → inputs.Table one budget ≡ inputs.Table other another → one ≡ other
 one_table one other budget another e = cc
 
 -- what comes of bytes that give a table holds where it holds of that one
@@ -159,11 +159,17 @@ module _ (words : List (List ℕ)) (change second : Change) (width : ℕ) (asked
         (λ found. Own found delivery) is of own,
   )
 
-  pub went_on_ends : (table : Table) (budget : ℕ) → input ≡ inputs.Table table budget → GoesOn (Own table) result second →
-      Ends words change (status_number result)
-  went_on_ends table budget is (inl (delivery, own, delivered)) = delivered_ends words change result delivery
+  pub read_on_ends : (table : Table) (budget : ℕ) → input ≡ inputs.Table table budget →
+      GoesOnReading (Own table) result second → Ends words change (status_number result)
+  read_on_ends table budget is (inl (delivery, own, delivered)) = delivered_ends words change result delivery
       (comes delivery (own_comes table budget is delivery own loaded)) (delivered_by delivery delivered)
-  went_on_ends table budget is (inr (memory, files, said)) =
+  read_on_ends table budget is (inr (memory, files, said)) =
       subst (λ (s : Status). Ends words change (status_number s)) (sym memory)
       (ends_memory words change (sym follows.said_after ∙ said ∙ follows.said)
       (inl (sym follows.files_after ∙ files ∙ follows.files)))
+
+  pub went_on_ends : (table : Table) (budget : ℕ) → input ≡ inputs.Table table budget → GoesOn (Own table) result second →
+      Ends words change (status_number result)
+  went_on_ends table budget is (inl (delivery, own, delivered)) =
+      read_on_ends table budget is (inl (delivery, inr own, delivered))
+  went_on_ends table budget is (inr memory) = read_on_ends table budget is (inr memory)

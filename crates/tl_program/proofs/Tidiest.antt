@@ -22,13 +22,15 @@ use Rattle.tl_program.specs.Complete.{ShowsFile}
 use Rattle.tl_program.specs.Headline.{Ends}
 use Rattle.tl_program.specs.Lowest.{StoresPage}
 use Rattle.tl_program.specs.Messages.{status_number, status_of, message_of}
-use Rattle.tl_program.specs.Narrowest.{IsSlimStatus, IsSoundTableOf, Prints}
+use Rattle.tl_program.specs.Messages.{Prints}
+use Rattle.tl_program.specs.Narrowest.{IsSlimStatus, IsSoundTableOf}
 use Rattle.tl_program.specs.Tasks.{style_of, task_of}
 use Rattle.tl_program.specs.Tidied.{EndsEarly, IsTidied, IsTidyEnd, IsTrimmed, IsTrimmedTo, chosen, laid_with}
 use Rattle.tl_program.specs.Tidied.{left_open, may_be_narrower}
 use Rattle.tl_program.specs.Tidiest.{IsNarrowestOf, StoresLowestOn, StoresShown, StoresTidy}
 use Rattle.tl_program.proofs.Asking.{names_asked}
 use Rattle.tl_program.proofs.InputRuns.{WentRun, went_run}
+use Rattle.tl_program.proofs.Lowest.{prints_same}
 use Rattle.tl_program.proofs.PagesStored.{can_be_spelt, page_stored, table_of_bytes}
 use Rattle.tl_program.proofs.SlimRuns.{own_slim, slim_apart}
 use Rattle.tl_program.proofs.TidyShown.{slim_shown}
@@ -128,12 +130,6 @@ module _ (words : List (List ℕ)) (change : Change) (status : ℕ) (asked : Ask
           page.2.layout upto page.2.fits),
     )
 
--- the message is that of the report
-pub prints_as : (change : Change) (delivered found : Report) →
-    change.said_after ≡ longer change.said (message_of delivered) → delivered ≡ found →
-    change.said_after ≡ longer change.said (message_of found)
-prints_as change delivered found printed same = printed ∙ ap (λ (r : Report). longer change.said (message_of r)) same
-
 -- what a run that trimmed the lowest page has stored
 module _ (words : List (List ℕ)) (change : Change) (status : ℕ) (asked : Asked) (bytes : List ℕ)
     (is : IsAskOf Tidy words asked) (shown : ShowsFile change (input_name asked) bytes) (went : TidyRun asked change status)
@@ -179,5 +175,5 @@ stores_tidy law words change status ends = λ same asked bytes is shown.
             subst (λ (w : ℕ). StoresShown asked change table trimmed.height w trimmed.slim.width) told.wide
                 (shown_of words change status asked bytes is shown went own told.certificate told.kept trimmed.slim.width
                 (told.low ∙ sym told.same)).0,
-            prints_as change went.delivery.report (reports.Tidy trimmed.height trimmed.slim.width) went.prints told.reports_it,
+            prints_same change went.delivery.report (reports.Tidy trimmed.height trimmed.slim.width) went.prints told.reports_it,
           )

@@ -64,9 +64,10 @@ use Rattle.tl_program.proofs.Asking.{names_asked}
 use Rattle.tl_program.proofs.Ends.{same_bytes}
 use Rattle.tl_program.proofs.FlatTables.{AreFlatCells, flat_cell, flat_cells, one_table}
 use Rattle.tl_program.proofs.LastWidths.{last_given, last_length}
+use Rattle.tl_program.proofs.Lowest.{prints_same}
 use Rattle.tl_program.proofs.OnePage.{one_page}
 use Rattle.tl_program.proofs.PagesStored.{page_there, table_of_bytes, can_be_spelt}
-use Rattle.tl_program.proofs.Tidiest.{TidyRun, early_apart, prints_as, tidy_run}
+use Rattle.tl_program.proofs.Tidiest.{TidyRun, early_apart, tidy_run}
 
 -- ---- the problem
 
@@ -320,7 +321,7 @@ module _ (law : MetIsSlimmest) (words : List (List ℕ)) (change : Change) (stat
           is_page = page.1.is_page;
         };
         stored = page.2;
-        prints = prints_as change went.delivery.report (reports.Tidy trimmed.height trimmed.slim.width) went.prints (sym is_report);
+        prints = prints_same change went.delivery.report (reports.Tidy trimmed.height trimmed.slim.width) went.prints (sym is_report);
       }
 
 -- what a run with status 0 stores

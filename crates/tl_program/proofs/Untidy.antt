@@ -24,14 +24,14 @@ use Rattle.tl_narrow.specs.SlimLaws.{KeptHasSlimmest, MetIsSlimmest, SlimmestIsN
 use Rattle.tl_program.specs.declared.report.Report.{Report}
 use Rattle.tl_program.specs.declared.report.Report.TheVariants as reports
 use Rattle.tl_program.specs.declared.task.Task.{Task}
-use Rattle.tl_program.specs.Answers.{IsLaidAs, IsWrittenBounded, bounded_laid, budget_in, lowest_laid, narrow_laid, reach, searches}
-use Rattle.tl_program.specs.declared.answer.Answer.{Answer}
+use Rattle.tl_program.specs.Answers.{budget_in, reach, searches}
 use Rattle.tl_program.specs.Asks.{IsAskOf, input_name}
 use Rattle.tl_program.specs.Change.{Change, with_all}
 use Rattle.tl_program.specs.Complete.{ShowsFile}
 use Rattle.tl_program.specs.Deliveries.{Delivery}
 use Rattle.tl_program.specs.Headline.{Ends}
-use Rattle.tl_program.specs.Messages.{message_of, status_number, status_of}
+use Rattle.tl_program.specs.Lowest.{columns}
+use Rattle.tl_program.specs.Messages.{Prints, message_of, status_number, status_of}
 use Rattle.tl_program.specs.Tasks.{style_of, task_of}
 use Rattle.tl_program.specs.Tidied.{IsLaidEarly, IsLeftOpen, IsMet, IsOwnProblem, IsTidied, IsTidyEnd, IsTrimmed, IsTrimmedTo, chosen}
 use Rattle.tl_program.specs.Tidied.{left_open, may_be_narrower}
@@ -41,11 +41,11 @@ use Rattle.tl_program.proofs.Asking.{names_asked}
 use Rattle.tl_program.proofs.Ends.{laid_status, own_input, refused_by, went}
 use Rattle.tl_program.proofs.InputRuns.{went_run}
 use Rattle.tl_program.proofs.LaidRuns.{own_laid}
-use Rattle.tl_program.proofs.Lowest.{answer_stored, narrow_of}
+use Rattle.tl_program.proofs.Lowest.{IsShownNarrow, answer_stored, bounded_of, prints_same, shown_narrow}
 use Rattle.tl_program.proofs.Narrowest.{below_counts, kept_there}
 use Rattle.tl_program.proofs.OpenCounts.{differ_or_less, open_below}
 use Rattle.tl_program.proofs.PagesStored.{can_be_spelt, table_of_bytes}
-use Rattle.tl_program.proofs.Tidiest.{TidyRun, page_of, prints_as, shown_of, tidy_run}
+use Rattle.tl_program.proofs.Tidiest.{TidyRun, page_of, shown_of, tidy_run}
 use Rattle.tl_program.proofs.TidyShown.{bounds_stored}
 
 -- what a run cites of the crates below
@@ -86,15 +86,6 @@ budget_reached task table near = omega (
   mul-le 1 (budget_in task table) (searches table task.width) (budget_in task table) (omega arith) (omega arith),
 )
 
--- what was laid out, where its height is open, and that it is reported so
-bounded_with : (task : Task) (table : Table) (answer : Answer) {report : Report} → IsLaidAs task table answer report →
-    status_number (status_of report) ≡ 3 → (height : ℕ) × (lower : ℕ) × (taken : ℕ)
-    × (report ≡ reports.Bounded height lower taken)
-    × IsWrittenBounded task table task.width (budget_in task table) height lower taken answer
-bounded_with task table answer (lowest_laid is) same = absurd (omega (arith, same))
-bounded_with task table answer (bounded_laid is) same = (_, _, _, refl, is)
-bounded_with task table answer (narrow_laid is) same = absurd (omega (arith, same))
-
 -- ---- what is left open
 
 module _ (words : List (List ℕ)) (change : Change) (status : ℕ) (asked : Asked) (bytes : List ℕ)
@@ -113,10 +104,10 @@ module _ (words : List (List ℕ)) (change : Change) (status : ℕ) (asked : Ask
   by_early : IsLaidEarly asked table went.delivery → Untidy
   by_early early =
       let same = sym (ap (λ (d : Delivery). status_number (status_of d.report)) early.so) ∙ sym went.told ∙ three in
-      let laid = bounded_with (task_of asked) table early.answer early.laid same in
+      let laid = bounded_of (task_of asked) table early.answer early.laid same in
       let of = table_of_bytes asked (reach (task_of asked)) (IsTidied asked) change went.delivery bytes shown went.run in
       let stores = went.stores ∙ ap (λ (d : Delivery). with_all change.files d.stores) early.so in
-      height_open laid.0 laid.1 laid.2
+      height_open laid.0 laid.1
       (answer_stored asked bytes change table of.is_table of.sound
       (can_be_spelt asked (reach (task_of asked)) (IsTidied asked) change went.delivery bytes shown went.run) is.is.names
       early.answer stores laid.0 laid.2 (budget_in (task_of asked) table) (claims.Bounded laid.0 laid.1) laid.4.written)
@@ -125,8 +116,8 @@ module _ (words : List (List ℕ)) (change : Change) (status : ℕ) (asked : Ask
       stores laid.4.written)
       (λ page from upto. subst (λ (n : ℕ). IsBelowCounts table (style_of asked) n (budget_in (task_of asked) table))
       (omega (arith, from, upto)) laid.4.below)
-      (prints_as change went.delivery.report (reports.Bounded laid.0 laid.1 laid.2) went.prints
-      (ap (λ (d : Delivery). d.report) early.so ∙ laid.3))
+      (prints_same change went.delivery.report (reports.Bounded laid.0 laid.1 (columns asked laid.4.written.layout)) went.prints
+      (ap (λ (d : Delivery). d.report) early.so ∙ laid.3 ∙ ap (reports.Bounded laid.0 laid.1) laid.4.written.is_page.wide))
 
   module _ (laws : TidyLaws) (own : IsTrimmedTo asked table went.delivery) where
     abbrev trimmed : IsTrimmed asked (task_of asked) went.run.table went.delivery.report own.texts
@@ -229,25 +220,31 @@ tidy_fits_none words change status ends = λ four asked bytes is shown.
     let went = went_run words change status Tidy asked (reach (task_of asked)) (IsTidied asked) ends is
     (own_laid status (inr (inr four))) (λ same. omega (arith, same, four)) (λ same. omega (arith, same, four))
     (λ delivery carried. carried) in
-    let of = table_of_bytes asked (reach (task_of asked)) (IsTidied asked) change went.delivery bytes shown went.run in (
+    let of = table_of_bytes asked (reach (task_of asked)) (IsTidied asked) change went.delivery bytes shown went.run in
+    let told = none_told asked went.run.table went.delivery went.run.own went.stores went.prints (sym went.told ∙ four) in (
       went.run.table,
       of.is_table,
       of.sound,
-      elim went.run.own [
-        | inl own ↦ absurd (not_four status four (end_status (task_of asked) went.run.table own.trimmed.height own.trimmed.slim
-            own.trimmed.ends status went.told))
-        | inr early ↦ λ height layout fits.
-            let found = narrow_of (task_of asked) went.run.table early.answer early.laid
-            (sym (ap (λ (d : Delivery). status_number (status_of d.report)) early.so) ∙ sym went.told ∙ four) in
-            let wide = found.1.is_least.least asked.number height layout fits in
-            let narrow = found.1.narrow in
-            omega (arith, wide, narrow)
-      ],
+      told.0,
+      told.1,
+      told.2,
+      told.3,
+      told.4,
     )
   where
-    not_four : (status : ℕ) → status ≡ 4 → (status ≡ 0) ⊎ (status ≡ 3) → ⊥
-    not_four status four (inl nought) = omega (arith, four, nought)
-    not_four status four (inr three) = omega (arith, four, three)
+    none_told : (asked : Asked) (table : Table) (delivery : Delivery) → IsTidied asked table delivery →
+        change.files_after ≡ with_all change.files delivery.stores → Prints change delivery.report →
+        status_number (status_of delivery.report) ≡ 4 → IsShownNarrow asked change table
+    none_told asked table delivery (inl own) stores prints four = absurd (not_four
+        (end_status (task_of asked) table own.trimmed.height own.trimmed.slim own.trimmed.ends _ refl)) where
+          not_four : (status_number (status_of delivery.report) ≡ 0) ⊎ (status_number (status_of delivery.report) ≡ 3) → ⊥
+          not_four (inl nought) = omega (arith, four, nought)
+          not_four (inr three) = omega (arith, four, three)
+    none_told asked table delivery (inr early) stores prints four =
+        shown_narrow asked change table early.answer early.laid
+        (sym (ap (λ (d : Delivery). status_number (status_of d.report)) early.so) ∙ four)
+        (prints_same change delivery.report early.answer.report prints (ap (λ (d : Delivery). d.report) early.so))
+        (stores ∙ ap (λ (d : Delivery). with_all change.files d.stores) early.so)
 
 pub finds_tidy : (words : List (List ℕ)) (change : Change) (status : ℕ) → Ends words change status → FindsTidy words change status
 finds_tidy words change status ends = λ asked bytes table is shown quiet spells.

@@ -12,6 +12,7 @@ pub mod Inputs
 pub mod Lowest
 pub mod Messages
 pub mod Narrowest
+pub mod ReadFaults
 pub mod Rejections
 pub mod Slimmed
 pub mod Tasks

@@ -1,5 +1,6 @@
 -- The exit status and the message of each report. A message ends with a line feed.
-use Rattle.std.specs.Prelude.{ℕ, ◌==◌, if◌then◌else◌, List, [], ◌∷◌, ◌++◌, codes, decimal, Option, None, Some}
+use Rattle.std.specs.Prelude.{◌≡◌, ℕ, ◌==◌, if◌then◌else◌, List, [], ◌∷◌, ◌++◌, codes, decimal, Option, None, Some}
+use Rattle.tl_base.specs.Desk.{longer}
 use Rattle.tl_read.specs.declared.refusal.Fault.{Fault}
 use Rattle.tl_read.specs.declared.refusal.Fault.TheVariants as faults
 use Rattle.tl_read.specs.declared.refusal.Limit.{Limit}
@@ -15,6 +16,7 @@ use Rattle.tl_program.specs.declared.report.Report.TheVariants as reports
 use Rattle.tl_program.specs.declared.report.Summary.{Summary}
 use Rattle.tl_program.specs.declared.status.Status.{Status}
 use Rattle.tl_program.specs.declared.status.Status.TheVariants as statuses
+use Rattle.tl_program.specs.Change.{Change}
 
 -- the number of a status
 abbrev pub status_number : Status → ℕ
@@ -147,3 +149,7 @@ message_of (reports.Rejected rejection) = codes "rejected: " ++ (rejection_text 
 message_of (reports.Summary summary) = summary_text summary
 message_of reports.Usage = codes "usage\n"
 message_of reports.ReadFault = codes "read fault\n"
+
+-- the message of the report is printed
+abbrev pub Prints : Change → Report → Type 0
+Prints change report = change.said_after ≡ longer change.said (message_of report)

@@ -3,14 +3,12 @@
 -- of `run`, for the statuses 0, 3 and 12.
 use Rattle.std.specs.Prelude.{◌≡◌, ◌⊎◌, ℕ, ◌≤◌, List, Option, IfSome}
 use Rattle.tl_base.specs.declared.limits.TheConstants.{MAX_PAGE_WIDTH}
-use Rattle.tl_base.specs.Desk.{longer}
 use Rattle.tl_command.specs.declared.command.Command.TheVariants.{Narrow}
 use Rattle.tl_command.specs.Ask.{Asked}
 use Rattle.tl_table.specs.declared.cell.Table.{Table}
 use Rattle.tl_table.specs.Sound.{IsSound}
 use Rattle.tl_narrow.specs.Slimmest.{IsBelowCounts, IsSlimmestWidth}
 use Rattle.tl_read.specs.Reading.{IsTableOfFile}
-use Rattle.tl_program.specs.declared.report.Report.{Report}
 use Rattle.tl_program.specs.declared.report.Report.TheVariants as reports
 use Rattle.tl_program.specs.Accepts.{AcceptsStored}
 use Rattle.tl_program.specs.Answers.{budget_in}
@@ -18,7 +16,7 @@ use Rattle.tl_program.specs.Asks.{IsAskOf, input_name}
 use Rattle.tl_program.specs.Change.{Change, DoesNotFail}
 use Rattle.tl_program.specs.Complete.{IsRefusedBy, ShowsFile, SpellsTable}
 use Rattle.tl_program.specs.Lowest.{OfFile, StoresPage}
-use Rattle.tl_program.specs.Messages.{message_of}
+use Rattle.tl_program.specs.Messages.{Prints}
 use Rattle.tl_program.specs.Tasks.{source_of, style_of, slim_task}
 
 -- the bytes of the file are the table
@@ -35,10 +33,6 @@ pub record StoresLowPage (asked : Asked) (bytes : List ℕ) (change : Change) (t
   pub height : ℕ
   pub low : height ≤ asked.number
   pub stored : StoresPage asked bytes change table width height
-
--- the message of the report is printed
-abbrev pub Prints : Change → Report → Type 0
-Prints change report = change.said_after ≡ longer change.said (message_of report)
 
 -- the search found the narrowest page, or that there is none, or ended early
 abbrev pub IsSlimStatus : ℕ → Type 0

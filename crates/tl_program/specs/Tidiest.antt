@@ -21,8 +21,8 @@ use Rattle.tl_program.specs.Accepts.{AcceptsStored}
 use Rattle.tl_program.specs.Answers.{Certifies, budget_in}
 use Rattle.tl_program.specs.Change.{Change, Holds}
 use Rattle.tl_program.specs.Complete.{IsCompleteBy, IsLaidStatus, IsRefusedBy}
-use Rattle.tl_program.specs.Lowest.{FitsNoneBy, HasNoneBelow, OfFile, StoresPage}
-use Rattle.tl_program.specs.Narrowest.{Prints}
+use Rattle.tl_program.specs.Lowest.{FitsNoneBy, HasNoneBelow, OfFile, StoresPage, columns}
+use Rattle.tl_program.specs.Messages.{Prints}
 use Rattle.tl_program.specs.Tasks.{style_of, task_of}
 use Rattle.tl_program.specs.Tidied.{IsLeftOpen, IsOwnProblem}
 
@@ -106,9 +106,9 @@ pub record LeavesOpen (asked : Asked) (table : Table) (height : ℕ) (kept : Cer
 -- low as the one stored, which is as low as any; or the choice among the layouts of the page stored, which is as low as any, and
 -- the narrowest so low
 pub data IsUntidy (asked : Asked) (bytes : List ℕ) (change : Change) (table : Table) : Type 0 where
-  height_open : (height lower taken : ℕ) → StoresPage asked bytes change table asked.number height
+  height_open : (height lower : ℕ) → (stored : StoresPage asked bytes change table asked.number height)
       → HasNoneBelow asked table lower → lower < height → StoresBounds asked change table height lower
-      → IsBelowFrom asked table asked.number → Prints change (reports.Bounded height lower taken)
+      → IsBelowFrom asked table asked.number → Prints change (reports.Bounded height lower (columns asked stored.layout))
       → IsUntidy asked bytes change table
   width_open : (height width least : ℕ) → StoresLowestOn asked bytes change table width height → least < width
       → (narrowest : ℕ) × IsNarrowestOf asked table height narrowest × (least ≤ narrowest) × (narrowest ≤ width)

@@ -6,13 +6,19 @@ ghost use Rattle.std.specs.List.{last_or};
 ghost use Rattle.tl_base.specs.Desk.{Rose};
 ghost use Rattle.tl_cert.specs.Text.{IsWritable};
 ghost use Rattle.tl_command.specs.Ask.{asked_by};
+ghost use Rattle.tl_table.specs.declared.cell.Table.{Table};
+ghost use Rattle.tl_program.specs.declared.input.Input.TheVariants as inputs;
 ghost use Rattle.tl_program.specs.declared.rejection.Rejection.{Rejection as R};
+ghost use Rattle.tl_program.specs.declared.report.Report.{Report};
 ghost use Rattle.tl_program.specs.declared.report.Report.TheVariants as reports;
+ghost use Rattle.tl_program.specs.declared.status.Status.TheVariants as statuses;
+ghost use Rattle.tl_program.specs.Asks.{input_name, judged_name};
 ghost use Rattle.tl_program.specs.Change.{between};
 ghost use Rattle.tl_program.specs.Checks.{IsChecked, IsJudged, IsJudgedIn, page_columns};
+ghost use Rattle.tl_program.specs.ReadFaults.{FailsToJudge, FailsToLoad};
 ghost use Rattle.tl_program.specs.Tasks.{task_of};
 ghost use Rattle.tl_program.specs.inner.Claims.{HasFewColumns, report_of};
-ghost use Rattle.tl_program.specs.inner.Steps.{GivesInput, GoesOn, IsJudgedOn, IsReadAs, IsTaskInRange};
+ghost use Rattle.tl_program.specs.inner.Steps.{GivesInput, GoesOnReading, IsJudgedOn, IsReadAs, IsTaskInRange};
 ghost use Rattle.tl_program.specs.inner.Steps.{IsUsable, IsUsableTable, ReportsOn};
 
 use crate::input::{Input, load, read_input};
@@ -123,6 +129,7 @@ fn judge_file<R: Threads + Sync, D: Desk, G: Gate>(
     ensures report { IfOk result (λ report.
         ((report ≡ reports.ReadFault) × Rose (D.load_faults desk.old) (D.load_faults desk.new))
         ⊎ IsJudgedIn task.now table.now (D.files desk.old) name.now report) }
+    ensures fault { IfOk result (λ report. report ≡ reports.ReadFault → FailsToLoad D.Desk desk.old desk.new name.now) }
     ensures files_stay { D.files desk.new ≡ D.files desk.old }
     ensures said_stays { D.said desk.new ≡ D.said desk.old }
     ensures writes_stay { D.write_faults desk.new ≡ D.write_faults desk.old }
@@ -188,11 +195,20 @@ fn give_back<R: Threads>(rt: &R, table: Table, certificate: Result<Certificate, 
 /// What a file of these bytes comes to where that of its certificate could not be read.
 fn unread(alloc: Global, task: &Task, bytes: &[u8]) -> Result<Report, AllocError>
     requires { IsTaskInRange task.now }
-    ensures { IfOk result (λ report. (report ≡ reports.ReadFault) ⊎ ReportsOn task.now (λ table. ⊥) bytes.now report) }
+    ensures { IfOk result (λ report. ReportsOn task.now (λ table. report ≡ reports.ReadFault) bytes.now report) }
 {
-    match read_input(alloc, task, bytes)? {
-        Input::Table { .. } => Ok(Report::ReadFault),
-        Input::Reported(report) => Ok(report),
+    let input = read_input(alloc, task, bytes)?;
+    Ok(report_unread(&input))
+}
+
+/// What is reported where a file gives this, and its certificate could not be read.
+fn report_unread(input: &Input) -> Report
+    ensures table { (table : Table) (budget : ℕ) → input.now ≡ inputs.Table table budget → result ≡ reports.ReadFault }
+    ensures reported { (report : Report) → input.now ≡ inputs.Reported report → result ≡ report }
+{
+    match input {
+        Input::Table { .. } => Report::ReadFault,
+        Input::Reported(report) => *report,
     }
 }
 
@@ -210,8 +226,9 @@ pub fn check_table<R: Threads + Sync, D: Desk, G: Gate>(
     requires names { 2 ≤ length ask.now.names.now }
     requires task { task.now ≡ task_of (asked_by ask.now) }
     requires usable { IsUsableTable task.now table.now budget }
-    ensures { GoesOn (IsChecked (asked_by ask.now) (D.files desk.old) table.now) result
+    ensures goes_on { GoesOnReading (IsChecked (asked_by ask.now) (D.files desk.old) table.now) result
         (between D.Desk desk.old desk.new) }
+    ensures read_fault { result ≡ statuses.ReadFault → FailsToLoad D.Desk desk.old desk.new (judged_name (asked_by ask.now)) }
 {
     let name = judged_name(ask);
     match judge_file(rt, alloc, name, task, table, budget, desk, gate) {
@@ -235,6 +252,9 @@ pub fn judge_files<R: Threads + Sync, D: Desk, G: Gate>(
     ensures report { IfOk result (λ report.
         ((report ≡ reports.ReadFault) × Rose (D.load_faults desk.old) (D.load_faults desk.new))
         ⊎ IsJudgedOn task.now (asked_by ask.now) (D.files desk.old) report) }
+    ensures fault { IfOk result (λ report. report ≡ reports.ReadFault
+        → FailsToLoad D.Desk desk.old desk.new (input_name (asked_by ask.now))
+        ⊎ FailsToJudge D.Desk desk.old desk.new task.now (asked_by ask.now)) }
     ensures files_stay { D.files desk.new ≡ D.files desk.old }
     ensures said_stays { D.said desk.new ≡ D.said desk.old }
     ensures writes_stay { D.write_faults desk.new ≡ D.write_faults desk.old }

@@ -4,6 +4,10 @@
 ghost use Rattle.std.specs.Prelude.{◌≡◌, ◌+◌, ◌≤◌, IfOk, IfNone, IfSome, length};
 ghost use Rattle.tl_base.specs.Desk.{IsReadFrom, Rose};
 ghost use Rattle.tl_command.specs.Ask.{asked_by};
+ghost use Rattle.tl_program.specs.declared.input.Input.TheVariants as inputs;
+ghost use Rattle.tl_program.specs.declared.report.Report.TheVariants as reports;
+ghost use Rattle.tl_program.specs.Asks.{input_name};
+ghost use Rattle.tl_program.specs.ReadFaults.{FailsToLoad};
 ghost use Rattle.tl_program.specs.inner.Steps.{GivesInput, IsLoaded, IsTaskInRange, IsUsable};
 
 use crate::budget::budget_within;
@@ -35,6 +39,8 @@ pub fn load_input<D: Desk>(
     requires names { 2 ≤ length ask.now.names.now }
     requires range { IsTaskInRange task.now }
     ensures loaded { IfOk result (IsLoaded task.now (asked_by ask.now) (D.files desk.old) (D.load_faults desk.old) (D.load_faults desk.new)) }
+    ensures fault { IfOk result (λ input. input ≡ inputs.Reported reports.ReadFault
+        → FailsToLoad D.Desk desk.old desk.new (input_name (asked_by ask.now))) }
     ensures usable { IfOk result (IsUsable task.now) }
     ensures files_stay { D.files desk.new ≡ D.files desk.old }
     ensures said_stays { D.said desk.new ≡ D.said desk.old }
@@ -69,6 +75,7 @@ pub fn load<D: Desk>(desk: &mut D, name: &str, most: u32) -> Result<Option<List<
         IfSome (D.files desk.old) (λ held. IsReadFrom held name.now most bytes))) }
     ensures counts { IfOk result (λ found. IfSome found (λ _. D.load_faults desk.new ≡ D.load_faults desk.old)) }
     ensures none { IfOk result (λ found. IfNone found (Rose (D.load_faults desk.old) (D.load_faults desk.new))) }
+    ensures fails { IfOk result (λ found. IfNone found (D.fails_to_load desk.old name.now desk.new)) }
     ensures files_stay { D.files desk.new ≡ D.files desk.old }
     ensures said_stays { D.said desk.new ≡ D.said desk.old }
     ensures writes_stay { D.write_faults desk.new ≡ D.write_faults desk.old }

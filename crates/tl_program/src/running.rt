@@ -5,6 +5,7 @@ ghost use Rattle.std.specs.Prelude.{◌≡◌, ◌≤◌, ℕ, List, length, map
 ghost use Rattle.tl_base.specs.declared.limits.TheConstants.{MAX_HEIGHT};
 ghost use Rattle.tl_command.specs.declared.command.Command.TheVariants as commands;
 ghost use Rattle.tl_command.specs.Ask.{asked_by, IsAsk};
+ghost use Rattle.tl_program.specs.declared.status.Status.TheVariants as statuses;
 ghost use Rattle.tl_program.specs.Alike.{ChecksAlike, LowestAlike, RefusalsAlike, TidyAlike};
 ghost use Rattle.tl_program.specs.Change.{between};
 ghost use Rattle.tl_program.specs.Complete.{AcceptsLaid, IsAcceptedSo, IsComplete, IsRefusedSo, IsRejectedSo};
@@ -13,6 +14,7 @@ ghost use Rattle.tl_program.specs.Narrowest.{StoresNarrowest};
 ghost use Rattle.tl_program.specs.Headline.{Ends};
 ghost use Rattle.tl_program.specs.Lowest.{FitsNone, StoresBounded, StoresLowest};
 ghost use Rattle.tl_program.specs.Messages.{status_number};
+ghost use Rattle.tl_program.specs.ReadFaults.{FailsToRead, IsReadFault};
 ghost use Rattle.tl_program.specs.Tasks.{slim_task, task_of};
 ghost use Rattle.tl_program.specs.Tidiest.{AcceptsTidy, FindsTidy, RefusesTidy, StoresTidy, StoresUntidy, TidyFitsNone};
 ghost use Rattle.tl_program.specs.inner.Steps.{IsTaskInRange};
@@ -54,6 +56,7 @@ pub fn run<R: Threads + Sync, D: Desk, G: Gate>(
     ensures untidy { StoresUntidy (map string_bytes words.now) (between D.Desk desk.old desk.new) result }
     ensures tidy_narrow { TidyFitsNone (map string_bytes words.now) (between D.Desk desk.old desk.new) result }
     ensures ends { Ends (map string_bytes words.now) (between D.Desk desk.old desk.new) result }
+    ensures read_fault { IsReadFault D.Desk desk.old desk.new (map string_bytes words.now) result }
     ensures complete { IsComplete (map string_bytes words.now) (between D.Desk desk.old desk.new) result }
     ensures refused { IsRefusedSo (map string_bytes words.now) (between D.Desk desk.old desk.new) result }
     ensures accepted { IsAcceptedSo (map string_bytes words.now) (between D.Desk desk.old desk.new) result }
@@ -90,6 +93,7 @@ fn carry_out<R: Threads + Sync, D: Desk, G: Gate>(
 ) -> Status
     ensures ends { Ends (map string_bytes words.now)
         (between D.Desk desk.old desk.new) (status_number result) }
+    ensures read_fault { IsReadFault D.Desk desk.old desk.new (map string_bytes words.now) (status_number result) }
 {
     let Some(ask) = Ask::parse(words) else {
         return print(desk, Status::Usage, b"usage\n");
@@ -116,6 +120,7 @@ fn lay_file<R: Threads + Sync, D: Desk, G: Gate>(
     requires range { IsTaskInRange (task_of (asked_by ask.now)) }
     ensures ends { (words : List (List ℕ)) → IsAsk words (asked_by ask.now) → Ends words
         (between D.Desk desk.old desk.new) (status_number result) }
+    ensures read_fault { result ≡ statuses.ReadFault → FailsToRead D.Desk desk.old desk.new (asked_by ask.now) }
 {
     let task = Task::of(ask);
     match load_input(alloc, ask, &task, desk) {
@@ -141,6 +146,7 @@ fn narrow_file<R: Threads + Sync, D: Desk, G: Gate>(
     requires lines { ask.now.number ≤ MAX_HEIGHT }
     ensures ends { (words : List (List ℕ)) → IsAsk words (asked_by ask.now) → Ends words
         (between D.Desk desk.old desk.new) (status_number result) }
+    ensures read_fault { result ≡ statuses.ReadFault → FailsToRead D.Desk desk.old desk.new (asked_by ask.now) }
 {
     let task = Task::on_page(ask, MAX_PAGE_WIDTH);
     match load_input(alloc, ask, &task, desk) {
@@ -165,6 +171,7 @@ fn tidy_file<R: Threads + Sync, D: Desk, G: Gate>(
     requires range { IsTaskInRange (task_of (asked_by ask.now)) }
     ensures ends { (words : List (List ℕ)) → IsAsk words (asked_by ask.now) → Ends words
         (between D.Desk desk.old desk.new) (status_number result) }
+    ensures read_fault { result ≡ statuses.ReadFault → FailsToRead D.Desk desk.old desk.new (asked_by ask.now) }
 {
     let task = Task::of(ask);
     match load_input(alloc, ask, &task, desk) {
@@ -189,6 +196,7 @@ fn check_file<R: Threads + Sync, D: Desk, G: Gate>(
     requires range { IsTaskInRange (task_of (asked_by ask.now)) }
     ensures ends { (words : List (List ℕ)) → IsAsk words (asked_by ask.now) → Ends words
         (between D.Desk desk.old desk.new) (status_number result) }
+    ensures read_fault { result ≡ statuses.ReadFault → FailsToRead D.Desk desk.old desk.new (asked_by ask.now) }
 {
     let task = Task::of(ask);
     if task.workers > 1 {
@@ -218,6 +226,7 @@ fn check_at_once<R: Threads + Sync, D: Desk, G: Gate>(
     requires range { IsTaskInRange task.now }
     ensures ends { (words : List (List ℕ)) → IsAsk words (asked_by ask.now) → Ends words
         (between D.Desk desk.old desk.new) (status_number result) }
+    ensures read_fault { result ≡ statuses.ReadFault → FailsToRead D.Desk desk.old desk.new (asked_by ask.now) }
 {
     match judge_files(rt, alloc, ask, task, desk, gate) {
         Ok(report) => deliver(alloc, desk, report, &[]),
@@ -236,6 +245,7 @@ fn demonstrate<R: Threads + Sync, D: Desk, G: Gate>(
     requires command { ask.now.command ≡ commands.Demo }
     ensures ends { (words : List (List ℕ)) → IsAsk words (asked_by ask.now) → Ends words
         (between D.Desk desk.old desk.new) (status_number result) }
+    ensures read_fault { result ≡ statuses.ReadFault → FailsToRead D.Desk desk.old desk.new (asked_by ask.now) }
 {
     match demonstration(rt, alloc, ask.number, gate) {
         Ok(summary) => deliver(alloc, desk, Report::Summary(summary), &[]),

@@ -95,12 +95,14 @@ IsUsable task (inputs.Reported report) = Unit {0}
 
 -- ---- how a command goes on
 
--- the command goes on with its own part, and what that gives is delivered, or a second file could not be read; or memory
--- runs out before anything is stored
+-- the command goes on with its own part, and what that gives is delivered; or memory runs out before anything is stored
 abbrev pub GoesOn : (Delivery → Type 0) → Status → Change → Type 0
-GoesOn Own status change =
-    ((delivery : Delivery) × (IsUnread change delivery ⊎ Own delivery) × IsDelivered status change delivery)
+GoesOn Own status change = ((delivery : Delivery) × Own delivery × IsDelivered status change delivery)
     ⊎ ((status ≡ statuses.Memory) × (change.files_after ≡ change.files) × (change.said_after ≡ change.said))
+
+-- a command that reads a second file goes on with its own part, or that file could not be read
+abbrev pub GoesOnReading : (Delivery → Type 0) → Status → Change → Type 0
+GoesOnReading Own status change = GoesOn (λ delivery. IsUnread change delivery ⊎ Own delivery) status change
 
 -- this is delivered; or memory runs out before anything is stored
 abbrev pub MayDeliver : Delivery → Status → Change → Type 0

@@ -356,7 +356,12 @@ fn what_is_wrong_with_a_file_is_told_before_its_certificate(
     let stray = ("x<table></table>", 5, "bad input: stray text at 0\n");
     let far = "<table><tr><td><table><tr><td>a</table></table>";
     let fault = (TWO, 7, "read fault\n");
-    for options in ["--budget 100000", "--budget 100000 --workers 2"] {
+    for options in [
+        "--budget 100000",
+        "--budget 100000 --workers 1",
+        "--budget 100000 --workers 2",
+        "--budget 100000 --workers 16",
+    ] {
         for (names, certificate, (file, status, message)) in [
             ("t.html c.txt", None, stray),
             ("t.html c.txt", Some("no certificate"), stray),

@@ -5,6 +5,7 @@ use Rattle.tl_program.specs.Change.{Change, between}
 use Rattle.tl_program.specs.Complete.{IsComplete, IsRefusedSo, IsAcceptedSo, IsRejectedSo, AcceptsLaid}
 use Rattle.tl_program.specs.Lowest.{FitsNone, StoresBounded, StoresLowest}
 use Rattle.tl_program.specs.Narrowest.{AcceptsSlim, FindsWidth, HoldsNone, RefusesSlim, StoresBetween, StoresNarrowest}
+use Rattle.tl_program.specs.ReadFaults.{IsReadFault}
 use Rattle.tl_program.specs.Tidiest.{AcceptsTidy, FindsTidy, RefusesTidy, StoresTidy, StoresUntidy, TidyFitsNone}
 use Rattle.tl_program.proofs.Accepting.{accepts_laid}
 use Rattle.tl_program.proofs.AcceptingStored.{accepts_slim, accepts_tidy}
@@ -154,3 +155,8 @@ returns-clause-tidy_alike g c =
     let change = between g.D.Desk c.args.desk.now c.carry_out.new.desk in
     numbered TidyAlike words change _ _ c.number.ensures
     (tidy_alike c.met_is_slimmest.ensures words change _ c.carry_out.ensures.ends)
+
+pub returns-clause-read_fault : goal.returns-clause-read_fault
+returns-clause-read_fault g c =
+    let words = map string_bytes c.args.words.now in
+    subst (IsReadFault g.D.Desk c.args.desk.now c.carry_out.new.desk words) (sym c.number.ensures) c.carry_out.ensures.read_fault

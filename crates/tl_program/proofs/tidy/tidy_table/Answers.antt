@@ -15,11 +15,11 @@ returns-in-Ok-Early g c =
     let told = subst (IsTidiedAs asked c.args.task.now table) c.in-Ok-Early.field-0-is c.in-Ok-Early.ensures in
     inl (
       delivery_of asked answer,
-      inr (inr (record {
+      inr (record {
         answer = answer;
         laid = subst (λ (task : Task). IsLaidAs task table answer answer.report) c.requires.task told.0;
         early = told.1;
         so = refl;
-      })),
+      }),
       c.deliver_answer.ensures.delivered,
     )
