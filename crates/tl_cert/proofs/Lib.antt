@@ -11,7 +11,9 @@ pub mod OneText
 pub mod Origins
 pub mod ReadResults
 pub mod TextExamples
+pub mod TextSizes
 pub mod TraceLaws
+pub mod UncutPages
 pub mod WorkedLaws
 pub mod ZoneBounds
 pub mod reading

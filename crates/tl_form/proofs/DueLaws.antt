@@ -1,6 +1,6 @@
 -- Which section is due after some, one at a time; and that the last of all is one of the document's own table on the whole
 -- page.
-use Rattle.std.proofs.Common.{◌≡◌, ◌∙◌, ℕ, zero, suc, ◌+◌, ◌-◌, ◌<◌, ◌≤◌, Bool, true, false, if◌then◌else◌, ◌==◌, List, [], ◌∷◌}
+use Rattle.std.proofs.Common.{◌≡◌, ◌∙◌, ℕ, zero, suc, ◌+◌, ◌-◌, ◌<◌, ◌≤◌, Bool, true, false, if◌then◌else◌, ◌==◌, nat_le, List, [], ◌∷◌}
 use Rattle.std.proofs.Common.{◌++◌, ◌⊎◌, inl, inr}
 use Rattle.std.proofs.Common.{length, get_or, take, Option, None, Some, refl, sym, ap, subst, arith}
 use Rattle.std.proofs.lemmas.Bool.{cases_eq, eq-eqb, ne_eqb}
@@ -29,6 +29,41 @@ pub due_after-more : (document : Document) (sections : List Section) (i : ℕ) (
 due_after-more document sections i d within =
     ap (due_after document) (take_more sections i d within)
     ∙ due_from-push document (Some (first_due document document.last)) (take i sections) (get_or sections i d)
+
+-- ---- what is due next
+
+-- the table's next section, or the first of the table before it; nothing after the document's own table
+pub by_next : (document : Document) (number placed : ℕ) (P : Option Due → Type 0) →
+    (number ≡ own_number document → P None) →
+    ((number ≡ own_number document → ⊥) → P (Some (due_in document number (next_width (least_of document number) placed)))) →
+    P (next_due document number placed)
+by_next document number placed P none some = elim (cases_eq number (own_number document)) [
+  | inl same ↦ subst P (sym (ap after (eq-eqb number (own_number document) same))) (none same)
+  | inr other ↦ subst P (sym (ap after (ne_eqb number (own_number document) other))) (some other)
+]
+  where
+    after : Bool → Option Due
+    after last = if last then None else Some (due_in document number (next_width (least_of document number) placed))
+
+-- the next width of a table is one less than the placement before took
+pub next_falls : (least placed width : ℕ) → next_width least placed ≡ Some width → width + 1 ≡ placed
+next_falls least zero width is = absurd (none_some is)
+  where
+    none_some : {X : Type 0} {x : X} → None ≡ Some x → ⊥
+    none_some equal = cc
+next_falls least (suc narrower) width is = by_test (nat_le least narrower) is
+  where
+    by_test : (test : Bool) → (if test then Some narrower else None) ≡ Some width → width + 1 ≡ suc narrower
+    by_test true same = let equal : narrower ≡ width = cc in omega (arith, equal)
+    by_test false same = absurd cc
+
+-- the table before another one has one table less before it
+pub one_before : (own number : ℕ) → own ≤ number → (number ≡ own → ⊥) → number - own ≡ (number - 1 - own) + 1
+one_before own number from other = by_left (number - own) refl
+  where
+    by_left : (k : ℕ) → number - own ≡ k → number - own ≡ (number - 1 - own) + 1
+    by_left zero none = absurd (other (omega (arith, none, from)))
+    by_left (suc k) some = omega (arith, some)
 
 -- ---- what may be due
 

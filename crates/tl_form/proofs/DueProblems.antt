@@ -46,7 +46,8 @@ use Rattle.tl_form.proofs.Truth.{Fits-wider, IsTrue, all_true, height_from, nest
 
 -- ---- a nested table is no wider than the one that holds it
 
-cell_within : (table : Table) → IsSound table → (cell : TableCell) → Contains (out-Table table).cells cell →
+-- a cell has a column, and lies within the columns of its table
+pub cell_within : (table : Table) → IsSound table → (cell : TableCell) → Contains (out-Table table).cells cell →
     ((out-TableCell cell).place.left < (out-TableCell cell).place.right) ×
     ((out-TableCell cell).place.right ≤ (out-Table table).cols)
 cell_within table sound cell has = by_depth sound.depth sound.sound

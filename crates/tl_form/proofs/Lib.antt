@@ -40,4 +40,7 @@ pub mod SameProblems
 pub mod SameDocuments
 pub mod Placing
 pub mod SmallSections
+pub mod CutSums
+pub mod ChainSizes
+pub mod ShortTexts
 pub mod NamedSteps

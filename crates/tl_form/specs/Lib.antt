@@ -13,4 +13,5 @@ pub mod ValidLaws
 pub mod ClosedLaws
 pub mod OpenLaws
 pub mod DueProblems
+pub mod LengthLaws
 pub mod inner
