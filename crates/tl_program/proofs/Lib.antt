@@ -21,6 +21,7 @@ pub mod Narrowest
 pub mod OnePage
 pub mod OpenCounts
 pub mod PagesStored
+pub mod Readable
 pub mod SlimPages
 pub mod SlimRuns
 pub mod Storing
