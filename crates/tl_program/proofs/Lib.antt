@@ -22,6 +22,7 @@ pub mod OnePage
 pub mod OpenCounts
 pub mod PagesStored
 pub mod ReadFaults
+pub mod Readable
 pub mod SlimPages
 pub mod SlimRuns
 pub mod Storing

@@ -79,9 +79,13 @@ abbrev pub certificate_file : Bool → Certificate → Option (List ℕ)
 certificate_file true certificate = Some (cert_text certificate)
 certificate_file false certificate = None
 
+-- the certificate has a text, which is not too long, and is read back as it is
+abbrev pub IsReadable : Certificate → Type 0
+IsReadable certificate = IsTextOf (cert_text certificate) certificate
+
 -- where it is asked for, its text is read back as it is
 abbrev pub IsReadBack : Bool → Certificate → Type 0
-IsReadBack true certificate = IsTextOf (cert_text certificate) certificate
+IsReadBack true certificate = IsReadable certificate
 IsReadBack false certificate = Unit {0}
 
 -- ---- a layout

@@ -2,7 +2,6 @@
 
 ghost use Rattle.std.specs.Prelude.{◌≡◌, ◌<◌, ◌≤◌, ◌-◌, ℕ, IfOk, length};
 ghost use Rattle.tl_base.specs.declared.limits.TheConstants.{MAX_PAGE_WIDTH, MAX_HEIGHT};
-ghost use Rattle.tl_cert.specs.Text.{IsWritable};
 ghost use Rattle.tl_table.specs.Layouts.{Fits};
 ghost use Rattle.tl_table.specs.Least.{IsLeastWidth};
 ghost use Rattle.tl_table.specs.Numbered.{AreByNumber};
@@ -10,10 +9,10 @@ ghost use Rattle.tl_form.specs.Expected.{IsDocumentOf};
 ghost use Rattle.tl_form.specs.Named.{IsLastPlacement};
 ghost use Rattle.tl_table.specs.Sound.{IsSound};
 ghost use Rattle.tl_form.specs.Subjects.{meant};
-ghost use Rattle.tl_program.specs.Answers.{IsPageFile, certificate_file, IsReadBack};
-ghost use Rattle.tl_program.specs.Answers.{IsLaidAs};
+ghost use Rattle.tl_program.specs.Answers.{IsLaidAs, IsPageFile, IsReadable, certificate_file};
 ghost use Rattle.tl_program.specs.inner.Claims.{report_of};
 ghost use Rattle.tl_program.specs.inner.Certified.{IsFound};
+ghost use Rattle.tl_program.specs.inner.Files.{IsFileBy};
 ghost use Rattle.tl_program.specs.inner.Steps.{IsUsableTable};
 
 use crate::makers::searched;
@@ -23,7 +22,7 @@ use crate::widths::total_width;
 use std::alloc::{AllocError, Global};
 use std::thread;
 use std::thread::Threads;
-use tl_base::{Gate, List, MAX_CERTIFICATE_BYTES};
+use tl_base::{Gate, List};
 use tl_cert::{Certificate, write};
 use tl_form::{
     Subject, bounded_is_between, budget_closes, layout_with, lowest_is_least, open_spends,
@@ -191,10 +190,9 @@ fn files<R: Threads + Sync>(
     requires sound { IsSound table.now }
     requires fits { (width height : ℕ) × (width ≤ MAX_PAGE_WIDTH) × (height ≤ MAX_HEIGHT)
         × Fits table.now task.now.style width height layout.now }
-    requires writable { IsWritable certificate.now }
+    requires readable { IsReadable certificate.now }
     ensures page { IfOk result (λ files. IsPageFile task.now.html task.now.style table.now layout.now files.0) }
     ensures certificate { IfOk result (λ files. files.1 ≡ certificate_file task.now.certified certificate.now) }
-    ensures readable { IfOk result (λ _. IsReadBack task.now.certified certificate.now) }
 {
     if task.workers == 1 || !task.certified {
         let page = page_file(alloc, task, table, layout)?;
@@ -202,9 +200,8 @@ fn files<R: Threads + Sync>(
         return Ok((page, text));
     }
     let certified = || -> Result<Option<List<u8>>, AllocError>
-        requires { IsWritable certificate.now }
-        ensures { IfOk result (λ file. (file ≡ certificate_file task.entry.now.certified certificate.entry.now)
-            × IsReadBack task.entry.now.certified certificate.entry.now) }
+        requires { IsReadable certificate.now }
+        ensures { IfOk result (λ file. file ≡ certificate_file task.entry.now.certified certificate.entry.now) }
     { certificate_file(alloc, task.certified, certificate) };
     let drawn = || -> Result<List<u8>, AllocError>
         requires { IsSound table.now × ((width height : ℕ) × (width ≤ MAX_PAGE_WIDTH) × (height ≤ MAX_HEIGHT)
@@ -240,17 +237,23 @@ pub fn certificate_file(
     asked_for: bool,
     certificate: &Certificate,
 ) -> Result<Option<List<u8>>, AllocError>
-    requires { IsWritable certificate.now }
-    ensures file { IfOk result (λ file. file ≡ certificate_file asked_for certificate.now) }
-    ensures readable { IfOk result (λ _. IsReadBack asked_for certificate.now) }
+    requires { IsReadable certificate.now }
+    ensures { IfOk result (λ file. file ≡ certificate_file asked_for certificate.now) }
+{
+    file_by(asked_for, certificate, |one| write(alloc, one))
+}
+
+/// What `write` gives for the certificate, where it is asked for. The error is its own alone.
+pub fn file_by<F: FnOnce(&Certificate) -> Result<List<u8>, AllocError>>(
+    asked_for: bool,
+    certificate: &Certificate,
+    write: F,
+) -> Result<Option<List<u8>>, AllocError>
+    requires { F.pre write certificate }
+    ensures { IsFileBy (F.post write certificate.entry) asked_for result }
 {
     if !asked_for {
         return Ok(None);
     }
-    let text = write(alloc, certificate)?;
-    // The reach leaves no certificate so long, and one that is could not be read back.
-    if text.len() > MAX_CERTIFICATE_BYTES {
-        return Err(AllocError);
-    }
-    Ok(Some(text))
+    Ok(Some(write(certificate)?))
 }

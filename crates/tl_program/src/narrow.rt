@@ -3,10 +3,10 @@
 
 ghost use Rattle.std.specs.Prelude.{◌≡◌, ◌≤◌, ◌∷◌, [], ℕ, None, IfOk, IfSome, length, map, string_bytes};
 ghost use Rattle.tl_base.specs.declared.limits.TheConstants.{MAX_HEIGHT, MAX_PAGE_WIDTH};
-ghost use Rattle.tl_cert.specs.Text.{IsWritable};
 ghost use Rattle.tl_command.specs.Ask.{asked_by};
 ghost use Rattle.tl_narrow.specs.declared.slim.Slim.{Slim as S};
 ghost use Rattle.tl_narrow.specs.Slims.{IsLowCertificate, IsSlim};
+ghost use Rattle.tl_program.specs.Answers.{IsReadable};
 ghost use Rattle.tl_program.specs.Change.{between, as_stored};
 ghost use Rattle.tl_program.specs.Deliveries.{Delivery};
 ghost use Rattle.tl_program.specs.Slimmed.{AreSlimTexts, IsPageOfKept, IsReadBackAt, IsSlimIn, IsSlimPage, IsSlimmed};
@@ -200,7 +200,7 @@ fn text_at(
     place: usize,
     certificate: &Option<Certificate>,
 ) -> Result<Option<List<u8>>, AllocError>
-    requires { IfSome certificate.now IsWritable }
+    requires { IfSome certificate.now IsReadable }
     ensures text { IfOk result (λ text. text ≡ text_at (asked_by ask.now) place certificate.now) }
     ensures readable { IfOk result (λ _. IsReadBackAt (asked_by ask.now) place certificate.now) }
 {

@@ -80,13 +80,14 @@ pub record IsTaskInRange (task : Task) : Type 0 where
   pub workers : 1 ≤ task.workers
   pub cuts : IfSome task.budget (λ budget. budget ≤ MAX_BUDGET)
 
--- a table with which a command can go on: it is sound, and the budget is that of each search for it
+-- a table with which a command can go on: it is sound, and the budget is that of each search for it, within the reach
 pub record IsUsableTable (task : Task) (table : Table) (budget : ℕ) : Type 0 where
   pub range : IsTaskInRange task
   pub sound : IsSound table
   pub cells : HasFewCells table
   pub of_task : budget ≡ budget_in task table
   pub cuts : budget ≤ MAX_BUDGET
+  pub within : reach task table ≤ MAX_REACH
 
 -- a table that is given is one with which a command can go on
 abbrev pub IsUsable : Task → Input → Type 0

@@ -16,6 +16,7 @@ use Rattle.tl_narrow.specs.Certified.{certificate_of, claim_of}
 use Rattle.tl_program.specs.inner.Claims.{report_of}
 use Rattle.tl_narrow.proofs.Certifying.{claimed_height, valid, writable}
 use Rattle.tl_program.proofs.Laying.{few_columns, answered}
+use Rattle.tl_program.proofs.Readable.{found_readable, read_back}
 use Rattle.tl_program.proofs.answer.laid.Goals as goal
 
 pub layout_with-requires-clause-written : goal.layout_with-requires-clause-written
@@ -73,14 +74,10 @@ files-requires-clause-fits g c κs within =
     c.requires.found.expected c.requires.found.writable c.requires.wide in
     (task.width, high.0, c.requires.usable.range.narrow, high.1, fits high.0 high.2)
 
-pub files-requires-clause-writable : goal.files-requires-clause-writable
-files-requires-clause-writable g c κs within =
-    let task = c.args.task.now in
-    subst IsWritable (sym c.requires.found.made)
-    (writable (IsOutcomeOf task.search task.workers c.args.budget) c.args.table.now task.style task.width c.args.budget
-    c.requires.found.sections
-    c.requires.found.expected c.requires.found.writable c.requires.wide
-    c.requires.usable.range.some c.requires.usable.range.narrow c.requires.usable.cuts)
+pub files-requires-clause-readable : goal.files-requires-clause-readable
+files-requires-clause-readable g c κs within =
+    found_readable c.args.task.now c.args.table.now c.args.budget c.requires.usable c.requires.wide c.args.certificate.now
+    c.requires.found
 
 pub returns-clause-laid : goal.returns-clause-laid
 returns-clause-laid g c =
@@ -121,5 +118,6 @@ returns-clause-laid g c =
     (c.total_width-width.ensures ∙ ap (total (gap_of task.style) (edge_of task.style)) c.as_slice.ensures)
     c.in_ok-page.ensures.page refl
     (c.in_ok-page.ensures.certificate ∙ ap (certificate_file task.certified) made)
-    (subst (IsReadBack task.certified) made c.in_ok-page.ensures.readable)
+    (subst (IsReadBack task.certified) made (read_back task.certified c.args.certificate.now
+    (found_readable task table c.args.budget c.requires.usable c.requires.wide c.args.certificate.now c.requires.found)))
     c.lowest_is_least.ensures c.bounded_is_between.ensures c.budget_closes.ensures c.open_spends.ensures)
