@@ -10,7 +10,6 @@ ghost use Rattle.tl_form.specs.Valid.{IsValid};
 use crate::documents::{Meeting, table_of};
 use std::alloc::{AllocError, Global};
 use std::process::Abort;
-use std::sync::atomic::{AtomicBool, Ordering};
 use std::test::Fail;
 use std::thread::Threads;
 use tl_base::{Gate, NoGate, Style};
@@ -302,15 +301,11 @@ fn errors_name_the_step_that_fails(rt: HostRuntime) -> Result<(), Fail> {
 #[test]
 fn fan_out_verify(rt: HostRuntime) -> Result<(), Fail> {
     let alloc = rt.alloc();
-    let gate = Meeting {
-        flags: [AtomicBool::new(false), AtomicBool::new(false)],
-        seen: [AtomicBool::new(false), AtomicBool::new(false)],
-    };
+    let gate = Meeting::new();
     let text = spelt(alloc, BESIDE_SHOWN)?;
     let found = judged(&rt, alloc, BESIDE, 12, 5000, 2, text.as_str(), &gate)?;
     assert_eq!(&rt; found.as_str(), "lowest [5 5 / 1[5 / 1][5 / 1]]");
-    assert!(&rt; gate.seen[0].load(Ordering::SeqCst));
-    assert!(&rt; gate.seen[1].load(Ordering::SeqCst));
+    assert!(&rt; gate.both_met());
     Ok(())
 }
 

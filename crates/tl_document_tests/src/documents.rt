@@ -6,7 +6,7 @@ ghost use Rattle.tl_table.specs.FewCells.{HasFewCells};
 ghost use Rattle.tl_table.specs.Sound.{IsSound};
 
 use std::alloc::{AllocError, Global};
-use std::sync::atomic::{AtomicBool, AtomicU32, Ordering};
+use std::sync::Mutex;
 use std::test::Fail;
 use tl_base::{Breaking, Gate, MAX_FILE_BYTES};
 use tl_nested::Make;
@@ -15,10 +15,62 @@ use tl_table::{Table, formed_has_few_cells, table};
 use tl_token::tokens;
 use tl_tree::tree;
 
+/// How often a thread tries to get hold of a count.
+const TURNS: u32 = 100_000_000;
+
+/// A number that the threads of a test share. It begins with 0.
+#[derive(Drop)]
+pub(crate) struct Count {
+    number: Mutex<u32>,
+}
+
+impl Count {
+    pub(crate) fn new() -> Count {
+        Count {
+            number: Mutex::new(0),
+        }
+    }
+
+    /// Adds so many, and returns the number before, or `None` if other threads hold it at all turns.
+    pub(crate) fn add(&self, more: u32) -> Option<u32> {
+        for _ in 0..TURNS {
+            if let Some(mut number) = self.number.try_lock() {
+                let before = *number;
+                *number = before.wrapping_add(more);
+                return Some(before);
+            }
+        }
+        None
+    }
+
+    /// The number, or `None` if other threads hold it at all turns.
+    pub(crate) fn number(&self) -> Option<u32> {
+        self.add(0)
+    }
+
+    /// Whether the number is `least` or more at one of the turns.
+    pub(crate) fn reaches(&self, least: u32) -> bool {
+        for _ in 0..TURNS {
+            if let Some(number) = self.number.try_lock() {
+                if *number >= least {
+                    return true;
+                }
+            }
+        }
+        false
+    }
+}
+
 /// Makes plain searches, and counts them.
 #[derive(Drop)]
 pub(crate) struct MakePlain {
-    pub(crate) made: AtomicU32,
+    pub(crate) made: Count,
+}
+
+impl MakePlain {
+    pub(crate) fn new() -> MakePlain {
+        MakePlain { made: Count::new() }
+    }
 }
 
 impl Make for MakePlain {
@@ -27,30 +79,38 @@ impl Make for MakePlain {
     type Made = Plain;
 
     fn make(&self, alloc: Global) -> Result<Plain, AllocError> {
-        self.made.fetch_add(1, Ordering::SeqCst);
+        self.made.add(1);
         Ok(Plain::new(alloc))
     }
 }
 
-/// How often a piece looks for another one's flag.
-const TURNS: u32 = 100_000_000;
-
-/// A gate at which two pieces with numbers one apart meet: each sets its flag, and looks for the other's.
+/// A gate at which two pieces with numbers one apart meet: each comes, and looks for the other.
 #[derive(Drop)]
 pub(crate) struct Meeting {
-    pub(crate) flags: [AtomicBool; 2],
-    pub(crate) seen: [AtomicBool; 2],
+    come: [Count; 2],
+    met: [Count; 2],
+}
+
+impl Meeting {
+    pub(crate) fn new() -> Meeting {
+        Meeting {
+            come: [Count::new(), Count::new()],
+            met: [Count::new(), Count::new()],
+        }
+    }
+
+    /// Whether each of the two has seen the other.
+    pub(crate) fn both_met(&self) -> bool {
+        self.met[0].reaches(1) && self.met[1].reaches(1)
+    }
 }
 
 impl Gate for Meeting {
     fn pass(&self, piece: u32) {
         let own = (piece % 2) as usize;
-        self.flags[own].store(true, Ordering::SeqCst);
-        for _ in 0..TURNS {
-            if self.flags[1 - own].load(Ordering::SeqCst) {
-                self.seen[own].store(true, Ordering::SeqCst);
-                return;
-            }
+        self.come[own].add(1);
+        if self.come[1 - own].reaches(1) {
+            self.met[own].add(1);
         }
     }
 }

@@ -8,7 +8,6 @@ ghost use Rattle.tl_table.specs.Sound.{IsSound};
 use crate::documents::{MakePlain, table_of};
 use std::alloc::Global;
 use std::process::Abort;
-use std::sync::atomic::{AtomicU32, Ordering};
 use std::test::Fail;
 use std::thread::Threads;
 use tl_base::{MAX_PAGE_WIDTH, NoGate, Style};
@@ -102,9 +101,7 @@ fn compare(
     requires cuts { budget ≤ MAX_BUDGET }
 {
     let table = table_of(alloc, file)?;
-    let maker = MakePlain {
-        made: AtomicU32::new(0),
-    };
+    let maker = MakePlain::new();
     let slim = slimmest(
         rt, alloc, &table, style, height, most, None, budget, 2, &maker, &NoGate,
     )?;
@@ -120,25 +117,23 @@ fn after_another(
     alloc: Global,
     file: &str,
     height: u32,
-) -> Result<(String, u32), Fail> {
+) -> Result<(String, Option<u32>), Fail> {
     let table = table_of(alloc, file)?;
     let style = Style::Plain;
-    let maker = MakePlain {
-        made: AtomicU32::new(0),
-    };
+    let maker = MakePlain::new();
     let mut first = slimmest(
         rt, alloc, &table, style, height, 12, None, 5000, 1, &maker, &NoGate,
     )?;
     if first.width != 10 {
         return Err("another page is the narrowest".into());
     }
-    maker.made.store(0, Ordering::SeqCst);
     let kept = first.kept.take();
+    let maker = MakePlain::new();
     let slim = slimmest(
         rt, alloc, &table, style, height, 10, kept, 5000, 1, &maker, &NoGate,
     )?;
     let line = told(rt, alloc, &table, 5000, &slim)?;
-    Ok((line, maker.made.load(Ordering::SeqCst)))
+    Ok((line, maker.made.number()))
 }
 
 /// A table of two columns: it takes 10 columns and 2 lines, or 7 and 3.
@@ -239,6 +234,6 @@ fn a_page_that_has_its_certificate_is_not_tried(rt: HostRuntime) -> Result<(), F
         line.as_str(),
         "10 10; at 10 lowest 2; at 9 lowest 3; none;"
     );
-    assert_eq!(&rt; made, 2);
+    assert_eq!(&rt; made, Some(2));
     Ok(())
 }

@@ -3,10 +3,9 @@
 ghost use Rattle.std.specs.Prelude.{◌≤◌};
 ghost use Rattle.tl_base.specs.declared.limits.TheConstants.{MAX_BUDGET, MAX_PAGE_WIDTH};
 
-use crate::documents::{MakePlain, Meeting, table_of};
+use crate::documents::{Count, MakePlain, Meeting, table_of};
 use std::alloc::{AllocError, Global};
 use std::process::Abort;
-use std::sync::atomic::{AtomicBool, AtomicU32, Ordering};
 use std::test::Fail;
 use std::thread::Threads;
 use tl_base::{Gate, NoGate, Style};
@@ -17,14 +16,15 @@ use tl_table::least_width;
 /// A gate that writes down when the pieces 0 to 3 come, from 1 on.
 #[derive(Drop)]
 struct Arrivals {
-    count: AtomicU32,
-    times: [AtomicU32; 4],
+    count: Count,
+    times: [Count; 4],
 }
 
 impl Gate for Arrivals {
     fn pass(&self, piece: u32) {
-        let now = self.count.fetch_add(1, Ordering::SeqCst);
-        self.times[(piece % 4) as usize].store(now.wrapping_add(1), Ordering::SeqCst);
+        if let Some(before) = self.count.add(1) {
+            self.times[(piece % 4) as usize].add(before.wrapping_add(1));
+        }
     }
 }
 
@@ -60,13 +60,11 @@ fn sections_of<G: Gate>(
         return Err("no layout fits the page".into());
     }
     let style = Style::Plain;
-    let maker = MakePlain {
-        made: AtomicU32::new(0),
-    };
+    let maker = MakePlain::new();
     let found = sections(
         rt, alloc, &table, style, width, budget, workers, &maker, gate,
     )?;
-    assert_eq!(rt; maker.made.load(Ordering::SeqCst) as usize, found.len());
+    assert_eq!(rt; maker.made.number(), u32::try_from(found.len()).ok());
     let mut line = String::new(alloc);
     for section in found.as_slice() {
         push_section(alloc, &mut line, section)?;
@@ -176,34 +174,25 @@ fn tables_side_by_side_on_a_narrower_page(rt: HostRuntime) -> Result<(), Fail> {
 
 #[test]
 fn fan_out_sections(rt: HostRuntime) -> Result<(), Fail> {
-    let gate = Meeting {
-        flags: [AtomicBool::new(false), AtomicBool::new(false)],
-        seen: [AtomicBool::new(false), AtomicBool::new(false)],
-    };
+    let gate = Meeting::new();
     let found = sections_of(&rt, rt.alloc(), BESIDE, 12, 100, 2, &gate)?;
     let wanted = "2 12 1 1: 5;2 4 2 2: 2;1 12 1 1: 5;1 4 2 2: 2;0 12 1 1: 5 5;";
     assert_eq!(&rt; found.as_str(), wanted);
-    assert!(&rt; gate.seen[0].load(Ordering::SeqCst));
-    assert!(&rt; gate.seen[1].load(Ordering::SeqCst));
+    assert!(&rt; gate.both_met());
     Ok(())
 }
 
 #[test]
 fn the_deepest_tables_come_first_and_each_once(rt: HostRuntime) -> Result<(), Fail> {
     let gate = Arrivals {
-        count: AtomicU32::new(0),
-        times: [
-            AtomicU32::new(0),
-            AtomicU32::new(0),
-            AtomicU32::new(0),
-            AtomicU32::new(0),
-        ],
+        count: Count::new(),
+        times: [Count::new(), Count::new(), Count::new(), Count::new()],
     };
     sections_of(&rt, rt.alloc(), FORKED, 20, 100, 1, &gate)?;
-    assert_eq!(&rt; gate.count.load(Ordering::SeqCst), 3);
-    assert_eq!(&rt; gate.times[2].load(Ordering::SeqCst), 1);
-    assert_eq!(&rt; gate.times[1].load(Ordering::SeqCst), 2);
-    assert_eq!(&rt; gate.times[3].load(Ordering::SeqCst), 3);
+    assert_eq!(&rt; gate.count.number(), Some(3));
+    assert_eq!(&rt; gate.times[2].number(), Some(1));
+    assert_eq!(&rt; gate.times[1].number(), Some(2));
+    assert_eq!(&rt; gate.times[3].number(), Some(3));
     Ok(())
 }
 

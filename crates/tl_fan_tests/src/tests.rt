@@ -4,17 +4,60 @@ ghost use Rattle.std.specs.Prelude.{◌≤◌};
 
 use std::alloc::{AllocError, Global};
 use std::process::Abort;
-use std::sync::atomic::{AtomicU32, Ordering};
+use std::sync::Mutex;
 use std::test::Fail;
 use std::thread::Threads;
 use tl_base::{Gate, NoGate};
 use tl_fan::{fan_out, gather, places};
 
-/// How often a piece looks for the others of its group.
-const TURNS: u32 = 100_000_000;
-
 /// Microseconds that no pieces here take: none of them is small.
 const LONG: u64 = 1_000_000_000;
+
+/// How often a thread tries to get hold of a count.
+const TURNS: u32 = 100_000_000;
+
+/// A number that the threads of a test share. It begins with 0.
+#[derive(Drop)]
+struct Count {
+    number: Mutex<u32>,
+}
+
+impl Count {
+    fn new() -> Count {
+        Count {
+            number: Mutex::new(0),
+        }
+    }
+
+    /// Adds so many, and returns the number before, or `None` if other threads hold it at all turns.
+    fn add(&self, more: u32) -> Option<u32> {
+        for _ in 0..TURNS {
+            if let Some(mut number) = self.number.try_lock() {
+                let before = *number;
+                *number = before.wrapping_add(more);
+                return Some(before);
+            }
+        }
+        None
+    }
+
+    /// The number, or `None` if other threads hold it at all turns.
+    fn number(&self) -> Option<u32> {
+        self.add(0)
+    }
+
+    /// Whether the number is `least` or more at one of the turns.
+    fn reaches(&self, least: u32) -> bool {
+        for _ in 0..TURNS {
+            if let Some(number) = self.number.try_lock() {
+                if *number >= least {
+                    return true;
+                }
+            }
+        }
+        false
+    }
+}
 
 /// A gate at which the pieces of a group of so many meet: each comes, and waits until all of them have come.
 /// The pieces from `past` on pass.
@@ -22,8 +65,8 @@ const LONG: u64 = 1_000_000_000;
 struct Together {
     size: u32,
     past: u32,
-    come: AtomicU32,
-    met: AtomicU32,
+    come: Count,
+    met: Count,
 }
 
 impl Gate for Together {
@@ -33,12 +76,9 @@ impl Gate for Together {
         }
         let size = self.size.max(1);
         let all = (piece - piece % size).saturating_add(size);
-        self.come.fetch_add(1, Ordering::SeqCst);
-        for _ in 0..TURNS {
-            if self.come.load(Ordering::SeqCst) >= all {
-                self.met.fetch_add(1, Ordering::SeqCst);
-                return;
-            }
+        self.come.add(1);
+        if self.come.reaches(all) {
+            self.met.add(1);
         }
     }
 }
@@ -46,12 +86,12 @@ impl Gate for Together {
 /// A gate that counts the passes, of every fourth piece together.
 #[derive(Drop)]
 struct Counting {
-    passed: [AtomicU32; 4],
+    passed: [Count; 4],
 }
 
 impl Gate for Counting {
     fn pass(&self, piece: u32) {
-        self.passed[(piece % 4) as usize].fetch_add(1, Ordering::SeqCst);
+        self.passed[(piece % 4) as usize].add(1);
     }
 }
 
@@ -60,14 +100,15 @@ impl Gate for Counting {
 #[derive(Drop)]
 struct Grouped {
     size: u32,
-    ended: AtomicU32,
-    early: AtomicU32,
+    ended: Count,
+    early: Count,
 }
 
 impl Gate for Grouped {
     fn pass(&self, piece: u32) {
-        if self.ended.load(Ordering::SeqCst) < piece - piece % self.size.max(1) {
-            self.early.fetch_add(1, Ordering::SeqCst);
+        let before = piece - piece % self.size.max(1);
+        if self.ended.number() < Some(before) {
+            self.early.add(1);
         }
     }
 }
@@ -114,8 +155,8 @@ fn meet_at_work(
     let gate = Together {
         size: workers,
         past,
-        come: AtomicU32::new(0),
-        met: AtomicU32::new(0),
+        come: Count::new(),
+        met: Count::new(),
     };
     let piece = |number: u32| -> u32 { number };
     let numbers = places(alloc, count)?;
@@ -129,7 +170,7 @@ fn meet_at_work(
         &piece,
     )?;
     assert_eq!(rt; found.as_slice(), numbers.as_slice());
-    assert_eq!(rt; gate.met.load(Ordering::SeqCst), past);
+    assert_eq!(rt; gate.met.number(), Some(past));
     Ok(())
 }
 
@@ -159,12 +200,7 @@ fn the_first_small_pieces_are_at_work_at_one_time(rt: HostRuntime) -> Result<(),
 #[test]
 fn each_piece_passes_the_gate_once(rt: HostRuntime) -> Result<(), Fail> {
     let gate = Counting {
-        passed: [
-            AtomicU32::new(0),
-            AtomicU32::new(0),
-            AtomicU32::new(0),
-            AtomicU32::new(0),
-        ],
+        passed: [Count::new(), Count::new(), Count::new(), Count::new()],
     };
     let piece = |number: u32| -> u32 { number };
     let numbers = places(rt.alloc(), 40)?;
@@ -178,15 +214,15 @@ fn each_piece_passes_the_gate_once(rt: HostRuntime) -> Result<(), Fail> {
         &piece,
     )?;
     for passed in &gate.passed {
-        assert_eq!(&rt; passed.load(Ordering::SeqCst), 1);
+        assert_eq!(&rt; passed.number(), Some(1));
     }
     fan_out(&rt, rt.alloc(), &gate, 3, numbers.as_slice(), LONG, &piece)?;
     for passed in &gate.passed {
-        assert_eq!(&rt; passed.load(Ordering::SeqCst), 11);
+        assert_eq!(&rt; passed.number(), Some(11));
     }
     fan_out(&rt, rt.alloc(), &gate, 3, numbers.as_slice(), 0, &piece)?;
     for passed in &gate.passed {
-        assert_eq!(&rt; passed.load(Ordering::SeqCst), 21);
+        assert_eq!(&rt; passed.number(), Some(21));
     }
     Ok(())
 }
@@ -202,17 +238,17 @@ fn groups(
 {
     let gate = Grouped {
         size: workers,
-        ended: AtomicU32::new(0),
-        early: AtomicU32::new(0),
+        ended: Count::new(),
+        early: Count::new(),
     };
     let piece = |number: u32| -> u32 {
-        gate.ended.fetch_add(1, Ordering::SeqCst);
+        gate.ended.add(1);
         number
     };
     let numbers = places(alloc, count)?;
     let found = fan_out(rt, alloc, &gate, workers, numbers.as_slice(), LONG, &piece)?;
     assert_eq!(rt; found.as_slice(), numbers.as_slice());
-    assert_eq!(rt; gate.early.load(Ordering::SeqCst), 0);
+    assert_eq!(rt; gate.early.number(), Some(0));
     Ok(())
 }
 

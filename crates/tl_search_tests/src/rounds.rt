@@ -10,7 +10,7 @@ ghost use Rattle.tl_rounds.specs.Fans.{ArePiecesOf, IsFan};
 use crate::problems::{is_accepted, numbers, two_rows};
 use std::alloc::{AllocError, Global};
 use std::process::Abort;
-use std::sync::atomic::{AtomicBool, AtomicU32, Ordering};
+use std::sync::Mutex;
 use std::test::Fail;
 use std::thread::Threads;
 use tl_base::{Gate, NoGate};
@@ -19,31 +19,73 @@ use tl_problem::{Problem, Zone};
 use tl_rounds::{Book, Rounds, pieces_at_once, pieces_stay};
 use tl_solve::{Outcome, Piece, PieceSolver, Solver};
 
-/// How often a piece looks for another one's flag.
+/// How often a thread tries to get hold of a count.
 const TURNS: u32 = 100_000_000;
 
-/// A gate that lets the first pass through, and at which the second and the third meet: each sets its flag,
-/// and looks for the other's.
+/// A number that the threads of a test share. It begins with 0.
+#[derive(Drop)]
+struct Count {
+    number: Mutex<u32>,
+}
+
+impl Count {
+    fn new() -> Count {
+        Count {
+            number: Mutex::new(0),
+        }
+    }
+
+    /// Adds so many, and returns the number before, or `None` if other threads hold it at all turns.
+    fn add(&self, more: u32) -> Option<u32> {
+        for _ in 0..TURNS {
+            if let Some(mut number) = self.number.try_lock() {
+                let before = *number;
+                *number = before.wrapping_add(more);
+                return Some(before);
+            }
+        }
+        None
+    }
+
+    /// The number, or `None` if other threads hold it at all turns.
+    fn number(&self) -> Option<u32> {
+        self.add(0)
+    }
+
+    /// Whether the number is `least` or more at one of the turns.
+    fn reaches(&self, least: u32) -> bool {
+        for _ in 0..TURNS {
+            if let Some(number) = self.number.try_lock() {
+                if *number >= least {
+                    return true;
+                }
+            }
+        }
+        false
+    }
+}
+
+/// A gate that lets the first pass through, and at which the second and the third meet: each comes, and
+/// looks for the other.
 #[derive(Drop)]
 struct MeetingLater {
-    passes: AtomicU32,
-    flags: [AtomicBool; 2],
-    seen: [AtomicBool; 2],
+    passes: Count,
+    come: [Count; 2],
+    met: [Count; 2],
 }
 
 impl Gate for MeetingLater {
     fn pass(&self, _piece: u32) {
-        let pass = self.passes.fetch_add(1, Ordering::SeqCst);
+        let Some(pass) = self.passes.add(1) else {
+            return;
+        };
         if pass == 0 || pass > 2 {
             return;
         }
         let own = (pass % 2) as usize;
-        self.flags[own].store(true, Ordering::SeqCst);
-        for _ in 0..TURNS {
-            if self.flags[1 - own].load(Ordering::SeqCst) {
-                self.seen[own].store(true, Ordering::SeqCst);
-                return;
-            }
+        self.come[own].add(1);
+        if self.come[1 - own].reaches(1) {
+            self.met[own].add(1);
         }
     }
 }
@@ -124,14 +166,14 @@ fn the_pieces_of_a_round_are_searched_at_once(rt: HostRuntime) -> Result<(), Fai
     let alloc = rt.alloc();
     let problem = two_rows(alloc)?;
     let gate = MeetingLater {
-        passes: AtomicU32::new(0),
-        flags: [AtomicBool::new(false), AtomicBool::new(false)],
-        seen: [AtomicBool::new(false), AtomicBool::new(false)],
+        passes: Count::new(),
+        come: [Count::new(), Count::new()],
+        met: [Count::new(), Count::new()],
     };
     assert_eq!(rt; searched(&rt, alloc, &problem, 2, 7, &gate)?, (4, 4, 7));
-    assert!(rt; gate.seen[0].load(Ordering::SeqCst));
-    assert!(rt; gate.seen[1].load(Ordering::SeqCst));
-    assert_eq!(rt; gate.passes.load(Ordering::SeqCst), 5);
+    assert_eq!(rt; gate.met[0].number(), Some(1));
+    assert_eq!(rt; gate.met[1].number(), Some(1));
+    assert_eq!(rt; gate.passes.number(), Some(5));
     Ok(())
 }
 
