@@ -66,16 +66,27 @@ fn at_once<R: Threads + Sync, G: Gate, X: Send + Drop, F: Fn(u32) -> X + Sync>(
     Ok(found)
 }
 
-/// How many microseconds it takes to start a thread and to wait for its end.
+/// How many microseconds a thread costs the one that starts it and waits for its end.
 const THREAD_COST: u64 = 50;
 
+/// How many microseconds a group costs beside its pieces: until the last of its threads has begun, and the one
+/// that waits for them goes on. Measured with groups of two and of four.
+const GROUP_COST: u64 = 200;
+
+/// Whether pieces that take so many microseconds on average are done sooner one after the other than in
+/// groups of `workers`.
+fn are_small(average: u64, workers: u32) -> bool {
+    let others = u64::from(workers).saturating_sub(1);
+    average < THREAD_COST || average.saturating_mul(others) < GROUP_COST
+}
+
 /// How many pieces each group after the first has: `workers`, or one where so many pieces, which take about
-/// so many microseconds together, take less than their threads would.
+/// so many microseconds together, are small.
 fn later_group(count: usize, effort: u64, workers: u32) -> usize
     requires { 1 ≤ workers }
     ensures { 1 ≤ result }
 {
-    if effort < THREAD_COST.saturating_mul(count as u64) {
+    if are_small(effort / (count as u64).max(1), workers) {
         1
     } else {
         workers as usize

@@ -10,8 +10,8 @@ use tl_form::Subject;
 use tl_table::{Content, Table, TableCell};
 
 /// About how many microseconds all searches of a small table take for each of its cells and each of its words.
-/// Those of a larger table take more, as it has more widths: 30, where a table has 30 rows of 3 cells.
-const WORD_TIME: u64 = 3;
+/// Those of a larger table take more, as it has more widths: 27, where a table has 30 rows of 3 cells.
+const WORD_TIME: u64 = 15;
 
 /// One for the cell, and one for each of its words. Those of nested tables are not counted.
 fn cell_size(cell: &TableCell) -> u64 {

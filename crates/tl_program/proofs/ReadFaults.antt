@@ -1,10 +1,10 @@
 -- A run reports that a file could not be read only where a load of a file that was asked for failed.
 use Rattle.std.proofs.Common.{◌≡◌, ◌⊎◌, inl, inr, ℕ, List, length, ◌+◌, ◌≤◌, Option, Bool, true, false, refl, sym, ◌∙◌, ap, subst, arith}
-use Rattle.std.specs.Prelude.{◌==◌, if◌then◌else◌, nat_le, IfNone, IfOk, IfSome, Result, Ok, Err}
+use Rattle.std.specs.Prelude.{◌==◌, if◌then◌else◌, nat_le, IfOk, IfSome, Result, Ok, Err}
 use Rattle.std.specs.declared.alloc.AllocError.{AllocError}
 use Rattle.tl_base.specs.declared.desk.Desk.{Ghosts}
-use Rattle.tl_base.specs.declared.limits.TheConstants.{MAX_FILE_BYTES, MAX_PAGE_WIDTH, MAX_REACH}
-use Rattle.tl_base.specs.Desk.{Files, IsReadFrom, Rose}
+use Rattle.tl_base.specs.declared.limits.TheConstants.{MAX_FILE_BYTES, MAX_PAGE_WIDTH}
+use Rattle.tl_base.specs.Desk.{Files, IsReadFrom}
 use Rattle.tl_command.specs.declared.command.Command.TheVariants.{Check}
 use Rattle.tl_command.specs.Ask.{Asked}
 use Rattle.tl_table.specs.declared.cell.Table.{Table}
@@ -28,14 +28,14 @@ use Rattle.tl_program.specs.Change.{Change, Holds}
 use Rattle.tl_program.specs.Checks.{IsJudged, IsShownAs, bounded_shown, lowest_shown, narrow_shown}
 use Rattle.tl_program.specs.Complete.{SpellsTable}
 use Rattle.tl_program.specs.Deliveries.{Delivery, IsAnswered}
-use Rattle.tl_program.specs.Inputs.{IsOfBytes, IsOfReading}
+use Rattle.tl_program.specs.Inputs.{IsOfReading}
 use Rattle.tl_program.specs.Messages.{status_number, status_of}
 use Rattle.tl_program.specs.ReadFaults.{FailsToJudge, FailsToLoad, FailsToRead, HoldsTable}
 use Rattle.tl_program.specs.Slimmed.{IsSlimmed, found_width}
 use Rattle.tl_program.specs.Tasks.{task_of}
 use Rattle.tl_program.specs.Tidied.{IsTidied, IsTidyEnd, chosen, left_open, may_be_narrower}
 use Rattle.tl_program.specs.inner.Printing.{IsDelivered, IsPrinted}
-use Rattle.tl_program.specs.inner.Steps.{GivesInput, GivesRefusal, GivesTable, GoesOn, IsInputIn, IsLoaded, ReportsOn}
+use Rattle.tl_program.specs.inner.Steps.{GivesInput, GivesRefusal, GivesTable, GoesOn, IsLoaded, ReportsOn}
 use Rattle.tl_program.proofs.Inputs.{content_of, of_bytes_mapped, reading_of_content}
 use Rattle.tl_program.proofs.Loading.{no_report, one_report, one_table}
 

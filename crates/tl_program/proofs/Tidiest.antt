@@ -1,7 +1,6 @@
 -- The theorem of `tidy` follows from how a run ends.
 use Rattle.std.proofs.Common.{◌≡◌, inl, inr, ℕ, ◌≤◌, List, Some}
 use Rattle.std.proofs.Common.{refl, sym, ap, subst, ◌∙◌, arith}
-use Rattle.tl_base.specs.Desk.{longer}
 use Rattle.tl_cert.specs.declared.certificate.Certificate.{Certificate}
 use Rattle.tl_command.specs.declared.command.Command.TheVariants.{Tidy}
 use Rattle.tl_command.specs.Ask.{Asked}
@@ -21,7 +20,7 @@ use Rattle.tl_program.specs.Change.{Change, with_all}
 use Rattle.tl_program.specs.Complete.{ShowsFile}
 use Rattle.tl_program.specs.Headline.{Ends}
 use Rattle.tl_program.specs.Lowest.{StoresPage}
-use Rattle.tl_program.specs.Messages.{status_number, status_of, message_of}
+use Rattle.tl_program.specs.Messages.{status_number, status_of}
 use Rattle.tl_program.specs.Messages.{Prints}
 use Rattle.tl_program.specs.Narrowest.{IsSlimStatus, IsSoundTableOf}
 use Rattle.tl_program.specs.Tasks.{style_of, task_of}

@@ -141,7 +141,16 @@ fn judge_file<R: Threads + Sync, D: Desk, G: Gate>(
     judge(rt, alloc, task, table, budget, &certificate, gate)
 }
 
-/// Reads a file of these bytes and the text of a certificate at one time.
+/// A file and its certificate of fewer bytes than these together are small: to read them, or to give back their
+/// memory, takes less than a thread costs.
+const SMALL_BYTES: usize = 65_536;
+
+/// Whether a file of these bytes and the text of its certificate are small.
+fn are_small(bytes: &[u8], text: &[u8]) -> bool {
+    bytes.len().saturating_add(text.len()) < SMALL_BYTES
+}
+
+/// Reads a file of these bytes and the text of a certificate, at one time unless they are small.
 fn read_both<R: Threads + Sync>(
     rt: &R,
     alloc: Global,
@@ -154,6 +163,9 @@ fn read_both<R: Threads + Sync>(
     ensures usable { IfOk result.0 (IsUsable task.now) }
     ensures read { IsReadAs text.now result.1 }
 {
+    if are_small(bytes, text) {
+        return (read_input(alloc, task, bytes), read(alloc, text));
+    }
     let input = || -> Result<Input, AllocError>
         requires { IsTaskInRange task.now }
         ensures { IfOk result (λ input. GivesInput task.entry.now bytes.entry.now input × IsUsable task.entry.now input) }
@@ -164,7 +176,7 @@ fn read_both<R: Threads + Sync>(
     thread::join(rt, input, certificate)
 }
 
-/// What a file of these bytes and the text of its certificate come to. Both are read at one time.
+/// What a file of these bytes and the text of its certificate come to.
 fn judge_both<R: Threads + Sync, G: Gate>(
     rt: &R,
     alloc: Global,
@@ -180,16 +192,24 @@ fn judge_both<R: Threads + Sync, G: Gate>(
     match input? {
         Input::Table { table, budget } => {
             let report = judge(rt, alloc, task, &table, budget, &certificate, gate);
-            give_back(rt, table, certificate);
+            give_back(rt, !are_small(bytes, text), table, certificate);
             report
         }
         Input::Reported(report) => Ok(report),
     }
 }
 
-/// Gives back the memory of a table and of what its certificate was read as, at one time.
-fn give_back<R: Threads>(rt: &R, table: Table, certificate: Result<Certificate, CertError>) {
-    thread::join(rt, move || drop(table), move || drop(certificate));
+/// Gives back the memory of a table and of what its certificate was read as, both at one time if it is worth a
+/// thread.
+fn give_back<R: Threads>(
+    rt: &R,
+    at_once: bool,
+    table: Table,
+    certificate: Result<Certificate, CertError>,
+) {
+    if at_once {
+        thread::join(rt, move || drop(table), move || drop(certificate));
+    }
 }
 
 /// What a file of these bytes comes to where that of its certificate could not be read.

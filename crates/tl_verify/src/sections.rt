@@ -131,8 +131,9 @@ fn first_refusal(judged: Vec<Result<(), Reject>>) -> Result<(), Reject>
     Ok(())
 }
 
-/// About how many nanoseconds a section takes for each place of its page, and each cut and line that it has.
-const SIZE_TIME: u64 = 100;
+/// About how many nanoseconds a section takes for each place of its page, and each cut and line that it has, as
+/// measured on sections of 30 rows.
+const SIZE_TIME: u64 = 50;
 
 /// About how many microseconds it takes to judge so many sections from the first on, as far as their sizes
 /// tell it. No contract depends on it: it tells only whether they are small enough to be judged one after
