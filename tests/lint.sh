@@ -9,7 +9,7 @@ skip() {
 }
 
 if command -v shellcheck >/dev/null; then
-    shellcheck -x tablelayout command/show command/install .ci/run bench/real.sh tests/*.sh {command,tests,tools}/*.bash || failed=1
+    shellcheck -x tablelayout command/show command/install .ci/run bench/real.sh bench/front.sh integrations/python/front tests/*.sh {command,tests,tools}/*.bash || failed=1
 else
     skip shellcheck "so the scripts are not looked at"
 fi

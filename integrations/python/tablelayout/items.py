@@ -71,7 +71,8 @@ def item_of_records(records: List[Record], has_head: bool, reading: Reading) -> 
     source = Source(data, csv_words(has_head and bool(clean), reading.least), is_rows=True)
     rows = len(chosen) - (has_head and bool(chosen))
     words = _first_words(" ".join(clean[0])) if clean else ""
-    return Item(source, rows, width, first_words=words, more=part.rest(), columns=lambda: _columns_of(clean, has_head))
+    more = f"{part.rest()}; --rows and --columns choose others" if part.rest() else ""
+    return Item(source, rows, width, first_words=words, more=more, columns=lambda: _columns_of(clean, has_head))
 
 
 def _columns_of(records: List[Record], has_head: bool) -> "Columns":

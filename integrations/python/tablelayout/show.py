@@ -165,19 +165,20 @@ class _Show:
         """Shows the file, and returns the status."""
         came = _read_input(self._given)
         source = _unchanged(self._given, came)
-        refused: List[str] = []
+        refused = None
         if source is not None:
             try:
                 # If it is too narrow the front may still show its records.
                 way = self._way._replace(records=False)
                 return self._print(lay_item(self._layouter, Item(source), way))
             except (BadInput, Overlap, LimitPassed, TooNarrow) as error:
-                refused = self._explained(error, source)
+                refused = _Fault(error.status, self._explained(error, source))
                 if self._given.strict:
-                    raise _Fault(error.status, refused) from None
+                    raise refused from None
         return self._show_items(self._items(came, refused))
 
-    def _items(self, came: _Input, refused: List[str]) -> List[Item]:
+    def _items(self, came: _Input, refused: Optional[_Fault]) -> List[Item]:
+        """The tables of the file. ``refused`` says why the program does not take it as it is, if it was asked."""
         given = self._given
         if (given.rows or given.columns) and came.kind.name in ("html", "pandoc"):
             raise _Fault(STATUS_USAGE, ["usage", "tablelayout show: --rows and --columns are of CSV and JSON"])
@@ -185,7 +186,8 @@ class _Show:
         try:
             found = read_items(came.data, came.kind, reading)
         except MissingPackage as missing:
-            raise _Fault(STATUS_BAD_INPUT if refused else _STATUS_FAILED, [*refused, str(missing)]) from None
+            refused = refused or _Fault(_STATUS_FAILED, [])
+            raise _Fault(refused.status, [*refused.lines, str(missing)]) from None
         except (BadChoice, LookupError) as fault:
             raise _Fault(STATUS_USAGE, ["usage", f"tablelayout show: {fault}"]) from None
         except (BadFile, PandocFault) as fault:
@@ -228,8 +230,7 @@ class _Show:
     def _print(self, shown: Shown) -> int:
         self._write(shown.text)
         if shown.more:
-            choose = "" if "records" in shown.more and "," not in shown.more else "; --rows and --columns choose others"
-            self._write(f"{shown.more}{choose}\n")
+            self._write(shown.more + "\n")
         self._note(shown.message + (" with broken words" if shown.breaking == "any" and not self._given.breaking else ""))
         return shown.status
 
