@@ -200,8 +200,9 @@ class Layouter:
         answer = again([])
         if answer.status not in (LOWEST, BOUNDED):
             raise refusal(answer, source)
-        if headline(answer.message)["found"] == "none":
-            raise NoPageFound(answer.message, int(headline(answer.message)["least"] or 0))
+        said = headline(answer.message)
+        if said.numbers.get("width") == "none":
+            raise NoPageFound(answer.message, said.number("least", 1))
         return kind(answer, again, relay)
 
 

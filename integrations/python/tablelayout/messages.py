@@ -2,7 +2,7 @@
 from __future__ import annotations
 
 import re
-from typing import Dict, Optional
+from typing import Dict, NamedTuple
 
 from . import errors
 from .places import place_at, record_at
@@ -11,33 +11,40 @@ from .sources import Source
 
 LOWEST, USAGE, BOUNDED, NARROW, BAD_INPUT, LIMIT, MEMORY, REJECTED, TOO_TALL = 0, 2, 3, 4, 5, 6, 9, 10, 12
 
-_HEADLINE = re.compile(
-    r"(?:lowest height (?P<height>\d+) width (?P<width>\d+)"
-    r"|bounded height (?P<bounded>\d+) lower (?P<lower>\d+) width (?P<bounded_width>\d+)"
-    r"|slimmest width (?P<slimmest>\d+) height (?P<most>\d+)"
-    r"|bounded width (?P<found>\d+|none) least (?P<least>\d+)"
-    r"|tidy height (?P<tidy_height>\d+) width (?P<tidy_width>\d+)"
-    r"|untidy width (?P<untidy>\d+) least (?P<untidy_least>\d+)"
-    r"|untidy (?P<choice>choice))")
-_NARROW = re.compile(r"narrow least (\d+) width \d+\s*(.*)")
-_OVERLAP = re.compile(r"bad input: overlap in table (\d+) at row (\d+) column (\d+)")
-_BAD_INPUT = re.compile(r"bad input: (.*) at (\d+)")
-_LIMIT = re.compile(r"limit: (\S+) (\d+)")
+# They are compiled where one is first needed, since `show` has to start at once.
+_NARROW = r"narrow least (\d+) width \d+\s*(.*)"
+_OVERLAP = r"bad input: overlap in table (\d+) at row (\d+) column (\d+)"
+_BAD_INPUT = r"bad input: (.*) at (\d+)"
+_LIMIT = r"limit: (\S+) (\d+)"
 
 
-def headline(message: str) -> Dict[str, Optional[str]]:
-    """The numbers of a message of status 0 or 3, by their names here. Raises ProgramFault for any other message."""
-    match = _HEADLINE.match(message)
-    if not match:
+class Headline(NamedTuple):
+    """A message of status 0 or 3, as ``lowest height 3 width 7``: its first word, and what it says of each name."""
+
+    kind: str
+    numbers: Dict[str, str]
+
+    def number(self, name: str, otherwise: int) -> int:
+        """The number of this name."""
+        return int(self.numbers.get(name, otherwise))
+
+
+_KINDS = frozenset(("lowest", "bounded", "slimmest", "tidy", "untidy"))
+
+
+def headline(message: str) -> Headline:
+    """What a message says. Raises ProgramFault for one that is none of status 0 or 3."""
+    kind, *words = message.split() or [""]
+    if kind not in _KINDS:
         raise errors.ProgramFault(f"the program's message is {message!r}")
-    return match.groupdict()
+    return Headline(kind, dict(zip(words[::2], words[1::2])))
 
 
 def _bad_input(message: str, source: Source) -> errors.Error:
-    overlap = _OVERLAP.match(message)
+    overlap = re.match(_OVERLAP, message)
     if overlap:
         return errors.Overlap(message, *(int(number) for number in overlap.groups()))
-    match = _BAD_INPUT.match(message)
+    match = re.match(_BAD_INPUT, message)
     if not match:
         return errors.Error(message)
     kind, at = match[1], int(match[2])
@@ -48,12 +55,12 @@ def _bad_input(message: str, source: Source) -> errors.Error:
 
 
 def _narrow(message: str) -> errors.Error:
-    match = _NARROW.match(message)
+    match = re.match(_NARROW, message)
     return errors.TooNarrow(message, int(match[1]), tuple(match[2].split())) if match else errors.Error(message)
 
 
 def _limit(message: str) -> errors.Error:
-    match = _LIMIT.match(message)
+    match = re.match(_LIMIT, message)
     return errors.LimitPassed(message, match[1], int(match[2])) if match else errors.Error(message)
 
 

@@ -77,10 +77,10 @@ class LowPage(Page):
 
     def __init__(self, answer: Answer, again: Again, relay: Relay) -> None:
         super().__init__(answer, again, relay)
-        numbers = headline(answer.message)
-        self.height = int(numbers["height"] or numbers["bounded"] or 0)
-        self.width = int(numbers["width"] or numbers["bounded_width"] or 0)
-        self.lower = int(numbers["lower"] or self.height)
+        said = headline(answer.message)
+        self.height = said.number("height", self.height)
+        self.width = said.number("width", self.width)
+        self.lower = said.number("lower", self.height)
         self.is_lowest = self.lower == self.height
 
 
@@ -92,9 +92,9 @@ class NarrowPage(Page):
 
     def __init__(self, answer: Answer, again: Again, relay: Relay) -> None:
         super().__init__(answer, again, relay)
-        numbers = headline(answer.message)
-        self.width = int(numbers["slimmest"] or numbers["found"] or 0)
-        self.least = int(numbers["least"] or self.width)
+        said = headline(answer.message)
+        self.width = said.number("width", self.width)
+        self.least = said.number("least", self.width)
         self.is_narrowest = self.least == self.width
 
     @property
@@ -116,11 +116,12 @@ class TidyPage(NarrowPage):
 
     def __init__(self, answer: Answer, again: Again, relay: Relay) -> None:
         Page.__init__(self, answer, again, relay)
-        numbers = headline(answer.message)
-        self.height = int(numbers["tidy_height"] or numbers["bounded"] or self.height)
-        self.width = int(numbers["tidy_width"] or numbers["untidy"] or numbers["bounded_width"] or self.width)
-        self.lower = int(numbers["lower"] or self.height)
-        self.least = int(numbers["untidy_least"] or (1 if numbers["bounded"] else self.width))
+        said = headline(answer.message)
+        self.height = said.number("height", self.height)
+        self.width = said.number("width", self.width)
+        self.lower = said.number("lower", self.height)
+        # Where the height is open nothing is known of widths.
+        self.least = said.number("least", 1 if said.kind == "bounded" else self.width)
         self.is_lowest = self.lower == self.height
         self.is_narrowest = self.is_lowest and self.least == self.width
         self.is_chosen = answer.status == 0
@@ -143,11 +144,9 @@ class Verdict(NamedTuple):
 
 def verdict_of(message: str) -> Verdict:
     """The verdict that a message of ``check`` gives, of status 0 or 3."""
-    numbers = headline(message)
-    height = int(numbers["height"] or numbers["bounded"] or 0)
-    width = int(numbers["width"] or numbers["bounded_width"] or 0)
-    lower = int(numbers["lower"] or height)
-    return Verdict("bounded" if numbers["bounded"] else "lowest", message, height, width, lower)
+    said = headline(message)
+    height = said.number("height", 0)
+    return Verdict(said.kind, message, height, said.number("width", 0), said.number("lower", height))
 
 
 class RichPage:

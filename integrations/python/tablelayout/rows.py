@@ -9,7 +9,7 @@ from typing import Any, Iterable, Iterator, List, Tuple, Union
 from .errors import BadCell
 
 # What the program refuses in text: control characters that are no white space.
-_CONTROL = re.compile("[\0-\x08\x0b\x0e-\x1f\x7f-\x9f]")
+_CONTROL = "[\0-\x08\x0b\x0e-\x1f\x7f-\x9f]"
 
 _BYTE_ORDER_MARK = "\ufeff"
 
@@ -40,7 +40,7 @@ def _rows_of_frame(frame: Any) -> Iterator[List[str]]:
 def _checked_cell(text: object, row: int, column: int) -> str:
     if not isinstance(text, str):
         raise BadCell(row, column, f"is {text!r} and no text")
-    control = _CONTROL.search(text)
+    control = re.search(_CONTROL, text)
     if control:
         raise BadCell(row, column, f"has the control character U+{ord(control[0]):04X}")
     try:

@@ -5,7 +5,7 @@ import re
 from typing import Iterable, Set
 
 # The program reads no control characters but white space.
-_CONTROL = re.compile("[\0-\x08\x0b\x0e-\x1f\x7f-\x9f\ud800-\udfff]")
+_CONTROL = "[\0-\x08\x0b\x0e-\x1f\x7f-\x9f\ud800-\udfff]"
 REPLACEMENT = "\ufffd"
 
 # In texts that are made here: a space at which no line breaks. No text that comes in has it, since it is a control character.
@@ -15,18 +15,18 @@ _NONCHARACTERS = [*range(0xFDD0, 0xFDF0), *(plane * 0x10000 + 0xFFFE + last for 
 
 _OPENS_EMBEDDING, _OPENS_ISOLATE = "\u202a\u202b\u202d\u202e", "\u2066\u2067\u2068"
 _ENDS_EMBEDDING, _ENDS_ISOLATE = "\u202c", "\u2069"
-_MARKS = re.compile("[\u202a-\u202e\u2066-\u2069]")
+_MARKS = "[\u202a-\u202e\u2066-\u2069]"
 
 
 def without_controls(text: str) -> str:
     """The text with U+FFFD in place of control characters that are no white space, and of surrogates."""
-    return _CONTROL.sub(REPLACEMENT, text)
+    return re.sub(_CONTROL, REPLACEMENT, text)
 
 
 def ends_of_marks(text: str) -> str:
     """The characters that end the marks in a text that reorder what follows, so that they do not reach into other cells."""
     open_marks = []
-    for mark in _MARKS.findall(text):
+    for mark in re.findall(_MARKS, text):
         if mark in _OPENS_EMBEDDING:
             open_marks.append(_ENDS_EMBEDDING)
         elif mark in _OPENS_ISOLATE:
