@@ -1,0 +1,18 @@
+"""Why a file is not read: each text is one line for its user."""
+from __future__ import annotations
+
+
+class MissingPackage(Exception):
+    """A package of Python is missing; the text says what brings it."""
+
+
+class PandocFault(Exception):
+    """pandoc is missing, or could not read the file."""
+
+
+class BadFile(Exception):
+    """The file is not of its kind, or there is no table in it."""
+
+
+class BadChoice(Exception):
+    """Rows or columns that the file does not have, or a text that names none."""

@@ -1,0 +1,86 @@
+"""Lays the tables that are shown out, in the way that fits."""
+from __future__ import annotations
+
+from typing import TYPE_CHECKING, NamedTuple, Optional, Sequence
+
+from .errors import TooNarrow
+from .items import Item
+from .layouter import Layouter
+from .pages import LowPage
+from .sources import Options, Source
+
+if TYPE_CHECKING:
+    from .vertical import Columns
+
+# How words break where none is asked for: whole if a layout has them, else between any two characters.
+BREAKS = ("words", "any")
+
+
+class Shown(NamedTuple):
+    """A page as it is printed, with the message of the program, and what of the table is left out."""
+
+    text: str
+    message: str
+    status: int
+    breaking: str
+    more: str
+
+
+class Way(NamedTuple):
+    """How tables are laid out: for which width, in which breakings, one after the other, and whether as records.
+
+    ``records`` is True for records, False for never, and None for records where nothing else fits. ``is_bold`` shows heads
+    in bold.
+    """
+
+    width: int
+    options: Options
+    breaks: Sequence[str] = BREAKS
+    records: Optional[bool] = None
+    is_bold: bool = False
+
+
+def _lay_source(layouter: Layouter, source: Source, way: Way) -> "tuple[LowPage, str]":
+    """The page, and the breaking with which it fits. Raises what Layouter.lay does."""
+    for breaking in way.breaks[:-1]:
+        try:
+            return layouter.lay_source(source, way.width, way.options._replace(breaking=breaking)), breaking
+        except TooNarrow:
+            pass
+    return layouter.lay_source(source, way.width, way.options._replace(breaking=way.breaks[-1])), way.breaks[-1]
+
+
+def _lay_records(layouter: Layouter, columns: "Columns", way: Way) -> Shown:
+    from .subset import file_of
+    from .vertical import vertical_of
+
+    vertical = vertical_of(columns)
+    file = file_of(vertical.html)
+    page, breaking = _lay_source(layouter, Source(file.data), way)
+    more = f"{vertical.more:,} more records" if vertical.more else ""
+    return Shown(file.shown(page.text), page.message, page.status, breaking, more)
+
+
+def lay_item(layouter: Layouter, item: Item, way: Way) -> Shown:
+    """The page of a table, or of its records. Raises what Layouter.lay does."""
+    columns = item.columns() if way.records else None
+    if columns:
+        return _with_more(_lay_records(layouter, columns, way), item.more)
+    try:
+        page, breaking = _lay_source(layouter, item.source, way)
+    except TooNarrow:
+        columns = item.columns() if way.records is None else None
+        if not columns:
+            raise
+        return _with_more(_lay_records(layouter, columns, way), item.more)
+    blank = "&nbsp;" if "--html" in way.options.more else " "
+    text = page.text.replace(item.blank, blank) if item.blank else page.text
+    if way.is_bold:
+        from .bold import bolded, head_height
+
+        text = bolded(text, head_height(layouter, page, way.options._replace(breaking=breaking)))
+    return Shown(text, page.message, page.status, breaking, item.more)
+
+
+def _with_more(shown: Shown, more: str) -> Shown:
+    return shown._replace(more=" and ".join(it for it in (shown.more, more) if it))
