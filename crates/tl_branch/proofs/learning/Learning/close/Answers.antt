@@ -66,7 +66,8 @@ returns-then-branch-clause-grown c = grown-next c.args.self.now c.close_by_bound
 
 pub returns-then-branch-clause-closed : goal.returns-then-branch-clause-closed
 returns-then-branch-clause-closed c = λ _. handled-grown c.args.problem.now c.close_by_bound.new.self c.climb.new.self
-    c.in_ok-climb.ensures.grown c.args.zone (λ _. (c.in_ok-close_by_bound.ensures.closed c.if-branch.true).line) (handled-bound c.args.problem.now c.args.self.now c.close_by_bound.new.self
+    c.in_ok-climb.ensures.grown c.args.zone (λ _. (c.in_ok-close_by_bound.ensures.closed c.if-branch.true).line)
+    (handled-bound c.args.problem.now c.args.self.now c.close_by_bound.new.self
     c.in_ok-close_by_bound.ensures.grown c.requires.height c.args.zone
     (c.in_ok-close_by_bound.ensures.closed c.if-branch.true))
 

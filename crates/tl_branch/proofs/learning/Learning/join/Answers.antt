@@ -44,5 +44,6 @@ returns-in_ok-put-in-Some-Some-clause-alone c =
 
 pub put-requires-clause-needed : goal.put-requires-clause-needed
 put-requires-clause-needed c = subst (λ (m : Learning). FiresAreNeeded c.args.problem.now m.arena.trace m.log (length m.log)
-    (line_of (get_or c.as_slice.result.now c.args.number no_cut).zone c.in_ok-fires-in-Some-Some.fires ends.Fired)) (sym c.in_ok-fires-in-Some-Some.ensures.same.same)
+    (line_of (get_or c.as_slice.result.now c.args.number no_cut).zone c.in_ok-fires-in-Some-Some.fires ends.Fired))
+    (sym c.in_ok-fires-in-Some-Some.ensures.same.same)
     c.in_ok-fires-in-Some-Some.ensures.needed
