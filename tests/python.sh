@@ -1,6 +1,6 @@
 #!/usr/bin/env bash
-# Runs the tests of the Python package, by the program that is built, and looks at its types. If all is so this prints
-# nothing, but for what is skipped.
+# Runs the tests of the Python package, by the program that is built, and looks at its types: python.sh [PYTHON]. Without
+# PYTHON it is that of the system. If all is so this prints nothing, but for what is skipped.
 set -uo pipefail
 top=$(dirname "$(dirname "$(readlink -f "${BASH_SOURCE[0]}")")")
 # shellcheck source=tests/common.bash
@@ -8,6 +8,7 @@ top=$(dirname "$(dirname "$(readlink -f "${BASH_SOURCE[0]}")")")
 
 python=python3
 [ ! -x /usr/bin/python3 ] || python=/usr/bin/python3
+python=${1-$python}
 # The tests leave no compiled files in the checkout.
 export PYTHONDONTWRITEBYTECODE=1 TABLELAYOUT_PROGRAM=${program:?}
 "$python" -c 'import html5lib' 2>/dev/null || skip "there is no html5lib (python3-html5lib), so pages of HTML are not tried"

@@ -207,6 +207,22 @@ class Processes(unittest.TestCase):
             layouter.lay([["a"]])
         self.assertIn("/no/such/program", str(caught.exception))
 
+    def test_in_process(self):
+        with tablelayout.Layouter(common.COMMAND, in_process=True) as layouter:
+            for width, wanted in ((12, (0, "lowest height 2 width 10")), (9, (0, "lowest height 3 width 7"))):
+                page = layouter.lay(html=COLUMNS, width=width)
+                self.assertEqual((page.status, page.message), wanted)
+                self.assertEqual(page.certificate.encode(), common.run("lay", width, COLUMNS)[3])
+            with self.assertRaises(tablelayout.BadRequest):
+                layouter.lay(html=COLUMNS, width=0)
+            self.assertEqual(layouter.lay([["a", "b"]]).text, "a  b\n")
+            self.assertIsNone(layouter.pid)
+        with tablelayout.Layouter([sys.executable, "-c", "import os; os.abort()"], in_process=True) as layouter, \
+                self.assertRaises(tablelayout.ProgramFault):
+            layouter.lay([["a"]])
+        with tablelayout.Layouter(["/dev/null"], in_process=True) as layouter, self.assertRaises(tablelayout.ProgramFault):
+            layouter.lay([["a"]])
+
     def test_closed(self):
         self.text()
         self.layouter.close()

@@ -125,7 +125,8 @@ class Kinds(unittest.TestCase):
 
     def test_contents(self):
         for data, wanted in ((b"<!DOCTYPE html>", "html"), (b"\xef\xbb\xbf \n<table>", "html"), (b'[{"a": 1}]', "json"), (b"a,b\nc,d\n", "csv"),
-                             (b"some text\nof two lines, of which one has a comma\n", "html"), (b"x <table><tr><td>", "html"), (b"", "html")):
+                             (b"some text\nof two lines, of which one has a comma\n", "html"), (b"x <table><tr><td>", "html"), (b"", "html"),
+                             (b"a,b\nc\0,d\n", "csv"), (bytes(9), "html")):
             with self.subTest(data=data):
                 self.assertEqual(kinds.kind_by_content(data).name, wanted)
 

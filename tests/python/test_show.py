@@ -2,6 +2,7 @@
 import fcntl
 import os
 import pty
+import signal
 import struct
 import subprocess
 import sys
@@ -12,22 +13,34 @@ from pathlib import Path
 
 import common
 
-START = [sys.executable, "-S", str(common.TOP / "integrations" / "python" / "start.py")]
+FRONT = common.TOP / "integrations" / "python" / "front"
+START = [sys.executable, "-S", str(FRONT.parent / "start.py")]
 EXAMPLES, DRAWN = common.TOP / "examples", common.TOP / "tests" / "show"
 SHIPS = b"name;depth;note\nLeith;9;deep\nAyr;4\n"
 PAGE = b"""<!DOCTYPE html><title>x</title><p>before<table><caption>Ports</caption><tr><th>name<th>depth<tr><td>Leith<td>9</table>
 <ul><li>between</ul><table><tr><td>one<td><img alt=two></table>"""
 
 
+def environment_of_test():
+    """The environment, but for what would change a page."""
+    return {name: value for name, value in os.environ.items() if name not in ("COLUMNS", "TABLELAYOUT", "NO_COLOR")}
+
+
+def script(room, name, text):
+    """A script of a shell, as a program."""
+    path = Path(room) / name
+    path.write_text("#!/bin/sh\n" + text)
+    path.chmod(0o755)
+    return str(path)
+
+
 class Run:
     """One run: its status, and what stands on both outputs."""
 
-    def __init__(self, *arguments, data=b"", options="", **environment):
-        environment = {**os.environ, "TABLELAYOUT_OPTIONS": options, **environment}
-        environment.setdefault("TABLELAYOUT", common.PROGRAM)
-        environment.pop("COLUMNS", None)
+    def __init__(self, *arguments, data=b"", options="", cwd=None, **environment):
+        environment = {"TABLELAYOUT": common.PROGRAM, **environment_of_test(), "TABLELAYOUT_OPTIONS": options, **environment}
         ran = subprocess.run([*START, *map(str, arguments)], input=data, stdout=subprocess.PIPE, stderr=subprocess.PIPE, check=False,
-                             env=environment)
+                             env=environment, cwd=cwd)
         self.status = ran.returncode
         self.text = ran.stdout.decode()
         self.said = ran.stderr.decode()
@@ -54,9 +67,34 @@ class Show(unittest.TestCase):
         for more, said in (([], ""), (["--quiet"], ""), (["--verbose"], drawn[-1])):
             ran = show(EXAMPLES / "stock.html", "--width", 40, *more)
             self.assertEqual((ran.text, ran.said, ran.status), ("".join(drawn[:-1]), said, 0))
-        ran = show("--width", 40, data=(EXAMPLES / "stock.html").read_bytes())
-        self.assertEqual(ran.text, "".join(drawn[:-1]))
-        self.assertEqual(show("--verbose", DRAWN / "query.html", "--width", 20).text, (DRAWN / "query.txt").read_text().rpartition("lowest")[0])
+        for ran in (show("--width", 40, data=(EXAMPLES / "stock.html").read_bytes()), show(EXAMPLES / "stock.html", COLUMNS="40"),
+                    show("-", "--width", "40", data=(EXAMPLES / "stock.html").read_bytes())):
+            self.assertEqual(ran.text, "".join(drawn[:-1]))
+        for name, arguments, wanted in (("query.html", ["--width", 20], "query.txt"), ("stock.html", ["--width", 60, "--style", "frame"], "stock_frame.txt"),
+                                        ("stock.html", [], "stock_120.txt")):
+            folder = DRAWN if name == "query.html" else EXAMPLES
+            with self.subTest(wanted=wanted):
+                ran = show("--verbose", folder / name, *arguments, COLUMNS="\u00b2", TERM="")
+                self.assertEqual(ran.text + ran.said, (DRAWN / wanted).read_text())
+
+    def test_budget(self):
+        ran = show(EXAMPLES / "columns.html", "--style", "plain", "--width", 12, "--budget", 0, "--verbose")
+        self.assertEqual(ran.text + ran.said + f"status {ran.status}\n", (DRAWN / "bounded.txt").read_text())
+
+    def test_pipes(self):
+        data = (EXAMPLES / "columns.html").read_bytes()
+        command = " ".join(START)
+        for script_of_shell in (f"{command} show <(cat) --width 9", f"{{ read -r; {command} show --width 9; }} < <(echo line | cat - /dev/fd/3)"):
+            with self.subTest(script=script_of_shell):
+                ran = subprocess.run(["bash", "-c", f"exec 3<&0; {script_of_shell}"], input=data, stdout=subprocess.PIPE, check=False,
+                                     env={**environment_of_test(), "TABLELAYOUT": common.PROGRAM})
+                self.assertEqual(ran.stdout, b"aaa cc dd\nbbb ee   \n")
+
+    def test_leaves_no_file(self):
+        (self.room / "temporary").mkdir()
+        for data in (PAGE, SHIPS, b"<table><tr><td>", b"", b"{"):
+            show(data=data, cwd=self.room, TMPDIR=str(self.room / "temporary"))
+        self.assertEqual([it.name for it in self.room.rglob("*")], ["temporary"])
 
     def test_options_of_the_environment(self):
         ran = show(EXAMPLES / "columns.html", options="--style frame --width 12")
@@ -68,14 +106,33 @@ class Show(unittest.TestCase):
         ran = show(DRAWN / "refused.html", "--strict")
         self.assertEqual(ran.said + f"status {ran.status}\n", (DRAWN / "refused.txt").read_text())
         said = "".join(show("--strict", "--markup", data=data, **more).said for data, more in (
-            (b"\xef\xbb\xbf<table>\n<tr><td>e\xcc\x81\t<b><hr>", {}), (b"<table>\r\n<tr>\x1b[1m\xff\r\n", {})))
-        self.assertEqual(said, "".join((DRAWN / "places.txt").read_text().splitlines(keepends=True)[:8]))
+            (b"\xef\xbb\xbf<table>\n<tr><td>e\xcc\x81\t<b><hr>", {}), (b"<table>\r\n<tr>\x1b[1m\xff\r\n", {}),
+            (b"<table><tr><td>" + b"a" * 60 + b"<img>" + b"b" * 60, {"COLUMNS": "40"}), (b"<table>\n<tr>\n", {})))
+        self.assertEqual(said, (DRAWN / "places.txt").read_text())
         ran = show("--csv", "--strict", data=b'a,b\n"c\nd ""x"", y",2\r\n\n\r\ne"f,3,4\n')
         self.assertEqual(ran.said + f"status {ran.status}\n", (DRAWN / "record.txt").read_text())
+        for arguments in (["--json"], ["--table", "1"], ["--records"]):
+            self.assertEqual(show("--strict", *arguments, data=SHIPS).status, 2)
+        ran = show("--strict", data=bytes(1048577))
+        self.assertEqual((ran.said, ran.status), ("limit: file 1048577\n", 6))
+
+    def test_places_of_long_lines(self):
+        says = script(self.room, "says", 'echo "bad input: $SAID"\nexit 5\n')
+        for data, kind, said, wanted in (
+            (b"a" * 1048570 + b"<img>\n", "--markup", "unknown element at 1048570",
+             ["line 1, column 1048571:", "...aaaaaaaaaaaaaaaaa<img>", "                    ^"]),
+            (b"a\n" + b'"' * 1048570 + b"\nc\n", "--csv", "uneven record at 2", ["line 3, column 1:", "c", "^"]),
+        ):
+            before = os.times()
+            ran = show("--strict", kind, data=data, COLUMNS="40", TABLELAYOUT=says, SAID=said)
+            after = os.times()
+            self.assertEqual((ran.said.splitlines(), ran.status), ([f"bad input: {said}", *wanted], 5))
+            self.assertLess(after.children_user - before.children_user, 2)
 
     def test_too_narrow(self):
-        ran = show(EXAMPLES / "stock.html", "--width", 12, "--strict", "--break", "words")
-        self.assertEqual(ran.said + f"status {ran.status}\n", (DRAWN / "narrow.txt").read_text())
+        for arguments, wanted in ((["--width", 12, "--break", "words"], "narrow.txt"), (["--width", 4, "--break", "any"], "narrow_any.txt")):
+            ran = show(EXAMPLES / "stock.html", "--strict", *arguments)
+            self.assertEqual(ran.said + f"status {ran.status}\n", (DRAWN / wanted).read_text())
 
     @common.needs_parser
     def test_page_of_several_tables(self):
@@ -146,14 +203,34 @@ class Show(unittest.TestCase):
         ran = show(self.room / "none.html")
         self.assertEqual((ran.status, ran.said.splitlines()[0]), (7, "read fault"))
         self.assertEqual(show(self.room).status, 7)
-        for arguments in (["--width", "0"], ["--width", "501"], ["--width"], ["--none"], ["a", "b"], ["--quiet", "--verbose"], ["--csv", "--json"]):
+        for arguments in (["--width", "0"], ["--width", "501"], ["--width"], ["--none"], ["a", "b"], ["--least", "1,x"], ["--least", "501"]):
             with self.subTest(arguments=arguments):
-                self.assertEqual(show(*arguments).status, 2)
+                ran = show(*arguments)
+                self.assertEqual((ran.status, ran.text, ran.said.splitlines()[0]), (2, "", "usage"))
         self.assertEqual(show("--rows", "1", data=PAGE).status, 2)
         self.assertEqual(show("--table", "0", data=PAGE).status, 2)
         self.assertEqual(show("--style", "none", data=b"<table><tr><td>a</table>").status, 2)
         ran = show(TABLELAYOUT="/no/such/program")
         self.assertEqual((ran.status, ran.said), (1, "there is no program /no/such/program that can be run\n"))
+
+    def test_options_that_are_given_count(self):
+        self.assertEqual(show("--verbose", "--markup", options="--quiet --csv", data=b"<table><tr><td>a</table>").said, "lowest height 1 width 1\n")
+
+    def test_input_that_does_not_end(self):
+        code = "import sys; sys.path.insert(0, sys.argv[1]); from tablelayout import inputs; inputs.MOST_BYTES = 1 << 22; " \
+               "from tablelayout.show import main; sys.exit(main([]))"
+        ran = subprocess.run(["bash", "-c", 'yes | "$@"', "bash", sys.executable, "-c", code, str(common.TOP / "integrations" / "python")],
+                             stdout=subprocess.PIPE, stderr=subprocess.PIPE, check=False)
+        self.assertEqual((ran.returncode, ran.stdout, ran.stderr), (6, b"", b"limit: input 4194305\n"))
+
+    def test_no_input_ends_with_a_traceback(self):
+        for data in (b"[" * 3000, b'{"a":' * 3000, b"\n".join([b"[" * 3000] * 2), b"<table>" * 20, b"<table><tr><td>" * 500, b'"' * 999,
+                     b"a,b\n" + b"\xff\x00," * 99, b"\xff\xfe\x00", b"\x00" * 500, b"<!DOCTYPE" * 99, b"a\tb;c|d,e\n" * 9):
+            for kind in (["--csv"], ["--json"], ["--markup"]):
+                with self.subTest(data=data[:20], kind=kind):
+                    ran = show(*kind, data=data)
+                    self.assertNotIn("Traceback", ran.said)
+                    self.assertIn(ran.status, (0, 3, 4, 5, 6))
 
     def test_missing_package(self):
         script = "import sys; sys.path.insert(0, sys.argv[1]); import tablelayout.packages as it; it._SYSTEM_PACKAGES = '/none'; " \
@@ -170,7 +247,17 @@ class Show(unittest.TestCase):
         environment = {**os.environ, "TABLELAYOUT": common.PROGRAM}
         ran = subprocess.run(["bash", "-c", script, "bash", *START, "show"], input=data, check=False, stdout=subprocess.PIPE,
                              stderr=subprocess.PIPE, env=environment)
-        self.assertEqual((ran.stdout.decode().split()[-1], ran.stderr), ("8", b""))
+        self.assertEqual((ran.stdout.decode().split()[0], ran.stdout.decode().split()[-1], ran.stderr), ("0", "8", b""))
+
+    def test_interrupt(self):
+        ran = subprocess.Popen([*START, "show"], stdin=subprocess.PIPE, stdout=subprocess.PIPE, stderr=subprocess.PIPE, cwd=self.room,
+                               env={**os.environ, "TABLELAYOUT": common.PROGRAM}, preexec_fn=lambda: signal.signal(signal.SIGINT, signal.default_int_handler))
+        # It waits for its input by now, if it has taken a part of it.
+        ran.stdin.write(b"a" * (1 << 20))
+        ran.stdin.flush()
+        ran.send_signal(signal.SIGINT)
+        said = ran.communicate()
+        self.assertEqual((ran.returncode, *said), (-signal.SIGINT, b"", b""))
 
     def test_full_device(self):
         environment = {**os.environ, "TABLELAYOUT": common.PROGRAM}
@@ -183,12 +270,19 @@ class Show(unittest.TestCase):
 class Terminal(unittest.TestCase):
     def on_terminal(self, columns, *arguments, **environment):
         """What appears on a terminal of so many columns."""
+        return self.appears(columns, [*START, "show", *map(str, arguments)], **environment)
+
+    def appears(self, columns, command, **environment):
+        """What a command prints on the terminal that it runs on, of so many columns."""
         ours, theirs = pty.openpty()
         fcntl.ioctl(theirs, termios.TIOCSWINSZ, struct.pack("HHHH", 24, columns, 0, 0))
-        environment = {**os.environ, "TABLELAYOUT": common.PROGRAM, "TERM": "xterm", "TABLELAYOUT_OPTIONS": "", **environment}
-        environment.pop("COLUMNS", None)
-        ran = subprocess.Popen([*START, "show", *map(str, arguments)], stdin=subprocess.DEVNULL, stdout=theirs, stderr=theirs,
-                               env=environment)
+        environment = {**environment_of_test(), "TABLELAYOUT": common.PROGRAM, "TERM": "xterm", "TABLELAYOUT_OPTIONS": "", **environment}
+
+        def take_terminal():
+            os.setsid()
+            fcntl.ioctl(theirs, termios.TIOCSCTTY, 0)
+
+        ran = subprocess.Popen(command, stdin=subprocess.DEVNULL, stdout=theirs, stderr=theirs, env=environment, preexec_fn=take_terminal)
         os.close(theirs)
         came = b""
         try:
@@ -209,6 +303,11 @@ class Terminal(unittest.TestCase):
             self.assertEqual(bold.replace("\x1b[1m", "").replace("\x1b[0m", ""), wanted)
             self.assertTrue(bold.startswith("\x1b[1mStock"), bold)
         self.assertEqual(self.on_terminal(40, EXAMPLES / "columns.html", "--quiet"), "aaa bbb cc dd ee\n")
+        self.assertEqual(self.on_terminal(120, EXAMPLES / "stock.html", NO_COLOR="1", COLUMNS="40"), (DRAWN / "stock_40.txt").read_text())
+
+    def test_width_in_pipes(self):
+        command = f"cat {EXAMPLES / 'stock.html'} | {' '.join(START)} show --verbose 2>&1 | cat"
+        self.assertEqual(self.appears(40, ["sh", "-c", command]), (DRAWN / "stock_40.txt").read_text())
 
 
 class Viewers(unittest.TestCase):
@@ -253,8 +352,66 @@ class Page(unittest.TestCase):
                 ran = Run("page", path, "--width", 40, TABLELAYOUT=common.PROGRAM)
                 self.assertEqual((ran.lines, ran.status, ran.said), (wanted, 0, ""))
 
-    def test_no_file(self):
+    @common.needs_pandoc
+    @common.needs_parser
+    def test_tags_that_are_left_out(self):
+        ran = Run("page", "--width", 40, data=b"<meta charset=iso-8859-1><p>\xe9<table><tr><th>a<th>b<tr><td>x<td>y</table>")
+        self.assertEqual((ran.lines, ran.status, ran.said), (["é", "", "a b", "x y"], 0, ""))
+
+    def test_faults(self):
         self.assertEqual(Run("page", "/no/such/file").status, 7)
+        self.assertEqual(Run("page", "/dev/null", "--width", "0").said.splitlines()[0], "usage")
+        ran = Run("page", EXAMPLES / "columns.html", PATH="/no/such/folder")
+        self.assertEqual((ran.status, ran.said.split(",")[0]), (1, "pandoc is missing"))
+
+
+class Front(unittest.TestCase):
+    """The script that the launcher starts."""
+
+    def setUp(self):
+        room = tempfile.TemporaryDirectory()
+        self.addCleanup(room.cleanup)
+        self.room = Path(room.name)
+
+    def run_front(self, *arguments, path=os.environ["PATH"], **environment):
+        return subprocess.run([str(FRONT), *arguments], stdin=subprocess.DEVNULL, stdout=subprocess.PIPE, stderr=subprocess.STDOUT, check=False,
+                              env={**environment_of_test(), "TABLELAYOUT": common.PROGRAM, "PATH": path, **environment}, cwd=self.room)
+
+    def test_finds_python(self):
+        other = script(self.room, "python3", 'echo "other $*"\n')
+        arguments = ["show", str(EXAMPLES / "columns.html"), "--width", "9"]
+        told = f"other -S {FRONT.parent}/start.py {' '.join(arguments)}\n".encode()
+        page = b"aaa cc dd\nbbb ee   \n"
+        # The first of the path is taken only where the system has none.
+        has_system = os.access("/usr/bin/python3", os.X_OK)
+        self.assertEqual(self.run_front(*arguments, path=f"{self.room}:{os.environ['PATH']}").stdout, page if has_system else told)
+        self.assertEqual(self.run_front(*arguments, TABLELAYOUT_PYTHON=other).stdout, told)
+        self.assertEqual(self.run_front(*arguments, TABLELAYOUT_PYTHON="/no/such/python").stdout, page)
+
+    def test_by_a_link(self):
+        (self.room / "link").symlink_to(FRONT)
+        ran = subprocess.run(["./link", "show", str(EXAMPLES / "columns.html"), "--width", "9"], stdout=subprocess.PIPE, check=False, cwd=self.room,
+                             env={**environment_of_test(), "TABLELAYOUT": common.PROGRAM})
+        self.assertEqual(ran.stdout, b"aaa cc dd\nbbb ee   \n")
+
+    def test_old_python(self):
+        code = "import sys, runpy; sys.version_info = (3, 7, 16); runpy.run_path(sys.argv[1])"
+        ran = subprocess.run([sys.executable, "-c", code, str(FRONT.parent / "start.py")], stderr=subprocess.PIPE, check=False)
+        self.assertEqual((ran.returncode, ran.stderr.count(b"\n"), ran.stderr[:43]), (1, 1, b"tablelayout: this is Python 3.7, and 3.8 or"))
+
+    def test_closed_descriptors(self):
+        command = f'{FRONT} show --width 9'
+        table = EXAMPLES / "columns.html"
+        for redirected, status, said in (("<&-", 5, b"bad input: there is no table in it\n"), (f"<{table} >&-", 8, b"standard output could not be written\n"),
+                                         (f"<{table} 2>&-", 0, b"")):
+            with self.subTest(redirected=redirected):
+                ran = subprocess.run(["sh", "-c", f"{command} {redirected}"], stdout=subprocess.DEVNULL, stderr=subprocess.PIPE, check=False,
+                                     env={**environment_of_test(), "TABLELAYOUT": common.PROGRAM})
+                self.assertEqual((ran.returncode, ran.stderr), (status, said))
+
+    def test_usage(self):
+        for arguments in ([], ["lay"], ["lessopen"], ["textconv", "a", "b"]):
+            self.assertEqual(self.run_front(*arguments).returncode, 2)
 
 
 if __name__ == "__main__":

@@ -5,14 +5,10 @@ import os
 import subprocess
 from typing import Sequence
 
-from .protocol import Answer, BadAnswer, read_answer
+from .protocol import Answer, BadAnswer, Ended, read_answer
 
 _BLOCK_BYTES = 1 << 16
 _SECONDS_TO_END = 2.0
-
-
-class Ended(Exception):
-    """The process ended before it answered."""
 
 
 class CoProcess:

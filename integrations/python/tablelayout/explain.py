@@ -5,11 +5,13 @@ import unicodedata
 from typing import List, NamedTuple
 
 from .errors import BadInput, Error, TooNarrow
-from .places import columns_of, place_at, record_at
+from .places import Place, columns_of, place_at, record_at, width_of
 from .sources import Source
 
 _LEAST_ROOM = 20
 _DOTS = "..."
+# More than the widest terminal shows, but for characters that take no column.
+_NEAR_CHARACTERS = 4096
 
 
 class _Drawn(NamedTuple):
@@ -29,14 +31,22 @@ def _shown(character: str, column: int) -> str:
     return "" if unicodedata.category(character) == "Cf" and character >= "\u0300" else character
 
 
-def _drawn(line: bytes) -> List[_Drawn]:
-    """The characters of a line; `?` stands for each byte that is not UTF-8."""
-    drawn, column = [], 0
-    for character in line.decode("utf-8", "surrogateescape"):
+def _drawn(text: str, column: int) -> List[_Drawn]:
+    """The characters of a part of a line that begins at a column; `?` stands for each byte that is not UTF-8."""
+    drawn = []
+    for character in text:
         end = column + columns_of(character, column)
         drawn.append(_Drawn(_shown(character, column), column, end))
         column = end
     return drawn
+
+
+def _drawn_near(place: Place) -> List[_Drawn]:
+    """The characters of a line near a place of it: a line may have a million, of which a terminal shows a few."""
+    line = place.text[:-1] if place.text.endswith(b"\r") else place.text
+    before, after = (part.decode("utf-8", "surrogateescape") for part in (line[:place.before], line[place.before:]))
+    begin = max(0, len(before) - _NEAR_CHARACTERS)
+    return _drawn(before[begin:] + after[:_NEAR_CHARACTERS], width_of(before[:begin]))
 
 
 def quoted_place(data: bytes, at: int, room: int) -> List[str]:
@@ -45,7 +55,7 @@ def quoted_place(data: bytes, at: int, room: int) -> List[str]:
     Of a line that has more columns than ``room`` the part around the byte is shown.
     """
     place = place_at(data, at)
-    drawn = _drawn(place.text[:-1] if place.text.endswith(b"\r") else place.text)
+    drawn = _drawn_near(place)
     room = max(room, _LEAST_ROOM)
     past = drawn[-1].end if drawn else 0
     mark = place.column - 1

@@ -3,11 +3,15 @@ from __future__ import annotations
 
 
 class MissingPackage(Exception):
-    """A package of Python is missing; the text says what brings it."""
+    """A package of Python, or pandoc, is missing; the text says what brings it."""
 
 
 class PandocFault(Exception):
-    """pandoc is missing, or could not read the file."""
+    """pandoc could not read the file."""
+
+
+class LongFile(Exception):
+    """More bytes come than are read."""
 
 
 class BadFile(Exception):

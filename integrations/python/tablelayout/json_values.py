@@ -47,7 +47,7 @@ def _lines(text: str) -> List[Any]:
         if line.strip():
             try:
                 values.append(json.loads(line))
-            except ValueError as fault:
+            except (ValueError, RecursionError) as fault:
                 raise BadFile(f"line {number} is no JSON: {fault}") from None
     return values
 
@@ -59,7 +59,7 @@ def read_json(text: str, has_lines: bool = False) -> JsonTable:
     """
     try:
         value = None if has_lines else json.loads(text)
-    except ValueError as fault:
+    except (ValueError, RecursionError) as fault:
         if "\n" not in text.strip():
             raise BadFile(f"it is no JSON: {fault}") from None
         has_lines = True

@@ -6,16 +6,19 @@ import os
 import sys
 import threading
 import weakref
-from typing import Callable, Optional, Sequence, Type, TypeVar, Union
+from typing import TYPE_CHECKING, Callable, Optional, Sequence, Type, TypeVar, Union
 
-from .coprocess import CoProcess, Ended
 from .errors import NoPageFound, ProgramFault, TooNarrow
 from .messages import BOUNDED, LOWEST, USAGE, headline, refusal
 from .pages import LowPage, NarrowPage, Page, TidyPage, Verdict, verdict_of
 from .program import find_program, is_runnable, runner_of
-from .protocol import Answer, request
+from .protocol import Answer, Ended, request
 from .rows import Rows
 from .sources import Options, Source, source_of
+
+if TYPE_CHECKING:
+    from .coprocess import CoProcess
+    from .runs import Runs
 
 File = Union[str, bytes]
 _AnyPage = TypeVar("_AnyPage", bound=Page)
@@ -32,13 +35,15 @@ class Layouter:
             print(layouter.lay([["a", "b"], ["c", "d"]], 72))
     """
 
-    def __init__(self, command: Optional[Sequence[str]] = None) -> None:
+    def __init__(self, command: Optional[Sequence[str]] = None, in_process: bool = False) -> None:
         """``command`` is the program with the arguments that stand before all others; without it the program is looked for.
 
-        Nothing is started before the first request.
+        Nothing is started before the first request. ``in_process`` starts no process but the program, for a command that
+        has to start at once.
         """
         self._command = command
-        self._process: Optional[CoProcess] = None
+        self._in_process = in_process
+        self._process: Union[CoProcess, Runs, None] = None
         self._lock = threading.Lock()
         self._is_closed = False
         _ALL.add(self)
@@ -92,13 +97,19 @@ class Layouter:
         except Ended as ended:
             raise ProgramFault(str(ended)) from ended
 
-    def _start(self) -> CoProcess:
+    def _start(self) -> Union[CoProcess, Runs]:
         command = self._command or [find_program() or ""]
         if not command[0]:
             raise ProgramFault("there is no program tablelayout: TABLELAYOUT names none, and none is beside this package "
                                "or in the path")
         if not is_runnable(command[0]):
             raise ProgramFault(f"there is no program {command[0]} that can be run")
+        if self._in_process:
+            from .runs import Runs
+
+            return Runs(command)
+        from .coprocess import CoProcess
+
         try:
             return CoProcess(runner_of(command))
         except OSError as fault:

@@ -1,17 +1,18 @@
 """``tablelayout page``: a whole document, its text and its tables, as pandoc and the filter write it."""
 from __future__ import annotations
 
-import argparse
 import os
 from typing import List, Optional, Sequence
 
 from . import terminal
+from .arguments import Parser, width_of_page
 from .decoding import decode
 from .documents import run_pandoc
-from .faults import PandocFault
+from .faults import LongFile, MissingPackage, PandocFault
+from .inputs import read_input
 from .kinds import HTML, Kind, kind_by_content, kind_by_name
 from .program import find_program
-from .show import STATUS_BAD_INPUT, STATUS_READ_FAULT, STATUS_WRITE_FAULT, width_of_page
+from .show import STATUS_BAD_INPUT, STATUS_FAILED, STATUS_LIMIT, STATUS_READ_FAULT, STATUS_WRITE_FAULT
 
 _FILTER = "tablelayout.lua"
 # Where the filter is, from a folder above this package: in a checkout, and below a PREFIX.
@@ -41,8 +42,8 @@ def _arguments(form: str, width: int) -> List[str]:
     return ["-f", form, "-t", "plain", f"--columns={width}", f"--lua-filter={find_filter() or _FILTER}"]
 
 
-def _utf8_of_html(data: bytes) -> bytes:
-    """A page of HTML in UTF-8, which alone pandoc reads."""
+def _read_declared(data: bytes) -> bytes:
+    """A page of HTML in UTF-8, from the encoding that it says, or that its bytes are."""
     found = decode(data)
     if found.encoding == "utf-8":
         return data
@@ -55,37 +56,46 @@ def _utf8_of_html(data: bytes) -> bytes:
         return found.text.encode("utf-8")
 
 
-def _read(name: str) -> bytes:
-    if name == "-":
-        return terminal.read_input()
-    with open(name, "rb") as file:
-        return file.read()
+def _for_pandoc(data: bytes) -> bytes:
+    """A page of HTML in UTF-8, which alone pandoc reads, with all tags, without which it does not find some tables."""
+    from .web import parse, written
+
+    try:
+        return written(parse(data))
+    except MissingPackage:
+        return _read_declared(data)
+
+
+def _parser() -> Parser:
+    it = Parser("page", "Shows a whole document, its text and its tables, for the terminal's width.")
+    it.add_argument("file", nargs="?", default="-", metavar="IN", help="the document; standard input where it is left out or -")
+    it.add_argument("--width", type=width_of_page, metavar="N", help="the width in columns, that of the terminal without it")
+    it.add_argument("--from", dest="form", metavar="FORMAT", help="what pandoc reads; found by the name and content without it")
+    return it
+
+
+def _text_of(name: str, form: Optional[str], width: int) -> bytes:
+    """The document as text. Raises OSError, LongFile, MissingPackage and PandocFault."""
+    data = read_input(name)
+    form = form or _format_of(kind_by_name(name) or kind_by_content(data))
+    if form == "html":
+        data = _for_pandoc(data)
+    return run_pandoc(_arguments(form, width), data, find_program())
 
 
 def main(arguments: Sequence[str]) -> int:
-    """Runs ``page`` and returns its status: 0, 5 where pandoc cannot read the file, 7 or 8."""
-    parser = argparse.ArgumentParser(prog="tablelayout page", allow_abbrev=False,
-                                     description="Shows a whole document, its text and its tables, for the terminal's width.")
-    parser.add_argument("file", nargs="?", default="-", metavar="FILE", help="the document; standard input where it is left out or -")
-    parser.add_argument("--width", type=width_of_page, metavar="N", help="the width in columns, that of the terminal without it")
-    parser.add_argument("--from", dest="form", metavar="FORMAT", help="what pandoc reads; found by the name and content without it")
-    given = parser.parse_args(arguments)
+    """Runs ``page`` and returns its status: 0, 1 without pandoc, 5 where that cannot read the file, 6, 7 or 8."""
+    given = _parser().parse_args(arguments)
     try:
-        data = _read(given.file)
+        text = _text_of(given.file, given.form, given.width or terminal.columns())
     except OSError as fault:
         terminal.write_message(["read fault", f"{given.file}: {fault.strerror}"])
         return STATUS_READ_FAULT
-    form = given.form or _format_of(kind_by_name(given.file) or kind_by_content(data))
-    if form == "html":
-        data = _utf8_of_html(data)
-    try:
-        text = run_pandoc(_arguments(form, given.width or terminal.columns()), data, find_program())
-        terminal.write_page(text)
-    except PandocFault as fault:
+    except (LongFile, MissingPackage, PandocFault) as fault:
         terminal.write_message([str(fault)])
-        return STATUS_BAD_INPUT
+        return {LongFile: STATUS_LIMIT, MissingPackage: STATUS_FAILED, PandocFault: STATUS_BAD_INPUT}[type(fault)]
+    try:
+        terminal.write_page(text)
     except OSError:
         return STATUS_WRITE_FAULT
-    except KeyboardInterrupt:
-        return 130
     return 0

@@ -30,6 +30,8 @@ def columns_of(character: str, column: int) -> int:
 
 def width_of(text: str) -> int:
     """The columns that a text of one line takes."""
+    if text.isascii() and text.isprintable():
+        return len(text)
     column = 0
     for character in text:
         column += columns_of(character, column)

@@ -41,5 +41,6 @@ def is_runnable(program: str) -> bool:
 
 def runner_of(program: Sequence[str]) -> List[str]:
     """The command that answers requests by runs of this program."""
-    runner = os.path.join(os.path.dirname(os.path.realpath(__file__)), "runner.py")
-    return [sys.executable, "-I", "-S", runner, *program]
+    # A module that is imported is compiled once, a script at each start. Modules of Python come before those of the package.
+    start = "import sys; sys.path.append(sys.argv[1]); import runner; sys.exit(runner.main(sys.argv[2:]))"
+    return [sys.executable, "-I", "-S", "-c", start, os.path.dirname(os.path.realpath(__file__)), *program]

@@ -23,6 +23,10 @@ class BadAnswer(Exception):
     """What came is no answer."""
 
 
+class Ended(Exception):
+    """The program ended before it answered."""
+
+
 def request(words: Sequence[str], parts: Sequence[bytes]) -> bytes:
     """The bytes of a request with these words and these files.
 

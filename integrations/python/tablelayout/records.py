@@ -30,7 +30,8 @@ class Records(NamedTuple):
 
 def fields_of_first(sample: str, delimiter: str) -> List[int]:
     """How many fields each of the first records has. The last record of the sample may be cut, and is left out."""
-    records = csv.reader(io.StringIO(sample, newline=""), delimiter=delimiter)
+    # A zero byte ends the reader of Python 3.8 to 3.10.
+    records = csv.reader(io.StringIO(without_controls(sample), newline=""), delimiter=delimiter)
     counts = [len(record) for record in islice(records, _SAMPLE_RECORDS) if record]
     return counts[:-1] if len(counts) > 1 and len(sample) == _SAMPLE_CHARACTERS else counts
 
@@ -68,7 +69,6 @@ def read_csv(text: str, delimiter: Optional[str] = None) -> Records:
     Raises BadFile for a field of more than 16 million characters.
     """
     csv.field_size_limit(_MOST_FIELD_CHARACTERS)
-    # A zero byte ends the reader of Python 3.8 to 3.10.
     reader = csv.reader(io.StringIO(without_controls(text), newline=""), delimiter=delimiter or find_delimiter(text))
     records, lines, line = [], [], 1
     try:

@@ -1,19 +1,22 @@
 """Answers one request after the other, each by a run of the program on files in memory.
 
-    python3 -I runner.py PROGRAM [ARGUMENT ..]
-
 Requests come on standard input and answers go to standard output: protocol.py has their forms. It ends with the input. A
 request that it cannot read, or whose words the program does not know, it answers with the status 2, and ends with that.
+
+It loads no module but those that Python itself loads at its start, since that would take longer than a run of the program.
 """
 from __future__ import annotations
 
 import os
-import subprocess
 import sys
-from typing import BinaryIO, List, NamedTuple, Optional, Sequence, Tuple
 
-_USAGE = 2
+TYPE_CHECKING = False
+if TYPE_CHECKING:
+    from typing import BinaryIO, List, Optional, Sequence, Tuple
+
+NO_ANSWER, _USAGE = 1, 2
 _MOST_LINE_BYTES = 4096
+_KILLED = 9
 # What the program stores for each command. All but the page is stored with `--cert` alone.
 _STORED = {"lay": ("page", "cert"), "narrow": ("page", "cert", "less", "spent"), "tidy": ("page", "cert", "less", "spent"), "check": ()}
 
@@ -22,12 +25,15 @@ class _Unreadable(Exception):
     """What came is no request."""
 
 
-class _Request(NamedTuple):
-    command: str
-    size: str
-    options: List[str]
-    has_certificates: bool
-    files: List[bytes]
+class _Request:
+    """The words of a command without its names, and the bytes of its files."""
+
+    def __init__(self, command: str, size: str, options: List[str], files: List[bytes]) -> None:
+        self.command = command
+        self.size = size
+        self.has_certificates = "--cert" in options
+        self.options = [it for it in options if it != "--cert"]
+        self.files = files
 
 
 def _read_file(came: BinaryIO, size: str) -> bytes:
@@ -49,9 +55,7 @@ def _read_request(came: BinaryIO) -> Optional[_Request]:
     if not line.endswith(b"\n") or words[0] not in _STORED or len(words) < 2 + count:
         raise _Unreadable
     command, size, *options = words[:-count]
-    files = [_read_file(came, it) for it in words[-count:]]
-    has_certificates = "--cert" in options
-    return _Request(command, size, [it for it in options if it != "--cert"], has_certificates, files)
+    return _Request(command, size, options, [_read_file(came, it) for it in words[-count:]])
 
 
 class _Files:
@@ -69,7 +73,7 @@ class _Files:
 
     def add(self, data: bytes = b"") -> str:
         """The name of a new file with these bytes."""
-        descriptor = os.memfd_create("tablelayout")
+        descriptor = os.memfd_create("tablelayout", 0)  # A child has it open too.
         self.descriptors.append(descriptor)
         with open(descriptor, "wb", closefd=False) as file:
             file.write(data)
@@ -88,21 +92,33 @@ def _answer(status: int, message: bytes = b"", stored: Sequence[bytes] = ()) -> 
     return b"".join([f"{status} {sizes}\n".encode("ascii"), message, b"\n", *parts])
 
 
+def _wait_for(command: List[str], output: int) -> int:
+    """Runs a command with its output in a file. The status, which is negative where a signal ended it."""
+    actions = [(os.POSIX_SPAWN_OPEN, 0, os.devnull, os.O_RDONLY, 0), (os.POSIX_SPAWN_DUP2, output, 1)]
+    pid = os.posix_spawnp(command[0], command, os.environ, file_actions=actions)
+    try:
+        _, status = os.waitpid(pid, 0)
+    except KeyboardInterrupt:
+        os.kill(pid, _KILLED)
+        os.waitpid(pid, 0)
+        raise
+    return os.WEXITSTATUS(status) if os.WIFEXITED(status) else -os.WTERMSIG(status)
+
+
 def _run(program: Sequence[str], asked: _Request) -> Tuple[int, bytes]:
     """The status of the program's run, which is negative where a signal ended it, and the answer."""
     with _Files() as files:
         names = [files.add(it) for it in asked.files]
         stored = _STORED[asked.command]
         names += [files.add() for _ in stored[:None if asked.has_certificates else 1]]
-        ran = subprocess.run([*program, asked.command, asked.size, *names, *asked.options], stdin=subprocess.DEVNULL,
-                             stdout=subprocess.PIPE, pass_fds=files.descriptors, check=False)
-        parts = [files.read(it) for it in range(len(asked.files), len(names))]
-    return ran.returncode, _answer(ran.returncode, ran.stdout.rstrip(b"\n"), parts)
+        files.add()  # What it prints.
+        status = _wait_for([*program, asked.command, asked.size, *names, *asked.options], files.descriptors[-1])
+        *parts, message = (files.read(it) for it in range(len(asked.files), len(files.descriptors)))
+    return status, _answer(status, message.rstrip(b"\n"), parts)
 
 
-def main(program: Sequence[str]) -> int:
-    """Answers requests to their end. Returns the status with which to end."""
-    came, out = sys.stdin.buffer, sys.stdout.buffer
+def answer_all(program: Sequence[str], came: BinaryIO, out: BinaryIO) -> int:
+    """Answers requests to their end. Returns 0, _USAGE after one that is none, or NO_ANSWER if the program gives none."""
     while True:
         try:
             asked = _read_request(came)
@@ -113,12 +129,16 @@ def main(program: Sequence[str]) -> int:
             return 0
         status, answer = _run(program, asked)
         if status < 0:
-            return 1  # There is no answer.
+            return NO_ANSWER
         out.write(answer)
         out.flush()
         if status == _USAGE:
             return _USAGE
 
 
-if __name__ == "__main__":
-    sys.exit(main(sys.argv[1:]))
+def main(program: Sequence[str]) -> int:
+    """Answers the requests of standard input. Returns the status with which to end."""
+    try:
+        return answer_all(program, sys.stdin.buffer, sys.stdout.buffer)
+    except (KeyboardInterrupt, OSError):
+        return NO_ANSWER

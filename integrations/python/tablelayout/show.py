@@ -2,15 +2,15 @@
 from __future__ import annotations
 
 import argparse
-import os
-import shlex
-from typing import List, NamedTuple, NoReturn, Optional, Sequence
+from typing import List, NamedTuple, Optional, Sequence
 
 from . import terminal
+from .arguments import STATUS_USAGE, Parser, whole_number, width_of_page, widths_of_columns, with_defaults
 from .decoding import decode
 from .errors import BadInput, BadRequest, Error, LimitPassed, Overlap, TooNarrow
 from .explain import explained
-from .faults import BadChoice, BadFile, MissingPackage, PandocFault
+from .faults import BadChoice, BadFile, LongFile, MissingPackage, PandocFault
+from .inputs import read_input
 from .items import Item, Reading, read_items
 from .kinds import CSV, HTML, JSON, Kind, kind_by_content, kind_by_name
 from .laying import BREAKS, Shown, Way, lay_item
@@ -19,38 +19,7 @@ from .records import NAMED_DELIMITERS, find_delimiter
 from .sources import Options, Source, csv_words
 from .texts import has_marks
 
-STATUS_USAGE, STATUS_BAD_INPUT, STATUS_READ_FAULT, STATUS_WRITE_FAULT = 2, 5, 7, 8
-_STATUS_FAILED, _STATUS_INTERRUPTED = 1, 130
-_MOST_WIDTH, _MOST_LEAST = 500, 60
-
-
-class _Help(argparse.HelpFormatter):
-    """Knows its width, for which argparse would load what takes its time."""
-
-    def __init__(self, prog: str) -> None:
-        super().__init__(prog, max_help_position=28, width=terminal.columns() - 2)
-
-
-class _Parser(argparse.ArgumentParser):
-    def error(self, message: str) -> NoReturn:
-        self.exit(STATUS_USAGE, f"usage\n{self.prog}: {message}\n")
-
-
-def width_of_page(text: str) -> int:
-    """The width that an option gives, in columns. Raises ArgumentTypeError."""
-    if not text.isascii() or not text.isdigit() or not 1 <= int(text) <= _MOST_WIDTH:
-        raise argparse.ArgumentTypeError(f"{text} is no width from 1 to {_MOST_WIDTH}")
-    return int(text)
-
-
-def _number(text: str) -> int:
-    if not text.isascii() or not text.isdigit():
-        raise argparse.ArgumentTypeError(f"{text} is no number")
-    return int(text)
-
-
-def _widths(text: str) -> "tuple[int, ...]":
-    return tuple(_number(it) for it in text.split(",")[:_MOST_LEAST + 1])
+STATUS_FAILED, STATUS_BAD_INPUT, STATUS_LIMIT, STATUS_READ_FAULT, STATUS_WRITE_FAULT, STATUS_MEMORY = 1, 5, 6, 7, 8, 9
 
 
 def _delimiter(text: str) -> str:
@@ -60,20 +29,19 @@ def _delimiter(text: str) -> str:
     return delimiter
 
 
-def parser() -> argparse.ArgumentParser:
+def parser() -> Parser:
     """The options."""
-    it = _Parser(prog="tablelayout show", allow_abbrev=False, formatter_class=_Help, description="Shows the tables of a file, each on its lowest page.",
-                 epilog="The environment's TABLELAYOUT_OPTIONS has options that stand before those that are given.")
+    it = Parser("show", "Shows the tables of a file, each on its lowest page.",
+                "The environment's TABLELAYOUT_OPTIONS has options that stand before those that are given.")
     it.add_argument("file", nargs="?", default="-", metavar="IN", help="the file; standard input where it is left out or -")
     it.add_argument("--width", type=width_of_page, metavar="N", help="the page's width in columns, that of the terminal without it")
-    it.add_argument("--table", type=_number, metavar="N", help="the N-th table alone, counted from 1")
+    it.add_argument("--table", type=whole_number, metavar="N", help="the N-th table alone, counted from 1")
     it.add_argument("--list", action="store_true", help="a line for each table in place of its page")
-    kinds = it.add_mutually_exclusive_group()
-    kinds.add_argument("--csv", dest="kind", action="store_const", const=CSV, help="IN is a CSV file")
-    kinds.add_argument("--json", dest="kind", action="store_const", const=JSON, help="IN is JSON, or a line of JSON for each row")
-    kinds.add_argument("--markup", dest="kind", action="store_const", const=HTML, help="IN is HTML")
+    it.add_argument("--csv", dest="kind", action="store_const", const=CSV, help="IN is a CSV file")
+    it.add_argument("--json", dest="kind", action="store_const", const=JSON, help="IN is JSON, or a line of JSON for each row")
+    it.add_argument("--markup", dest="kind", action="store_const", const=HTML, help="IN is HTML")
     it.add_argument("--head", action="store_true", help="the first record is a head")
-    it.add_argument("--least", type=_widths, default=(), metavar="LIST", help="the least widths of the first columns, as 5,0,12")
+    it.add_argument("--least", type=widths_of_columns, default=(), metavar="LIST", help="the least widths of the first columns, as 5,0,12")
     it.add_argument("--delimiter", type=_delimiter, metavar="CHARACTER", help="what stands between fields; found without it")
     it.add_argument("--encoding", metavar="NAME", help="the encoding of IN; found without it")
     it.add_argument("--rows", metavar="A-B", help="these rows alone, counted from 1")
@@ -82,13 +50,13 @@ def parser() -> argparse.ArgumentParser:
     it.add_argument("--strict", action="store_true", help="only what the program itself reads, with the place of what it does not")
     it.add_argument("--style", default="compact", metavar="STYLE", help="how the page is drawn: plain, compact (without it), frame")
     it.add_argument("--break", dest="breaking", metavar="words|any", help="how words break; any where they do not fit whole, without it")
-    it.add_argument("--budget", type=_number, metavar="N", help="how many cuts one search may make")
+    it.add_argument("--budget", type=whole_number, metavar="N", help="how many cuts one search may make")
     it.add_argument("--solver", metavar="SEARCH", help="which search finds the page")
-    it.add_argument("--workers", type=_number, metavar="K", help="how many workers search at one time")
+    it.add_argument("--workers", type=whole_number, metavar="K", help="how many workers search at one time")
     it.add_argument("--html", action="store_true", help="the page as HTML with its widths")
-    said = it.add_mutually_exclusive_group()
-    said.add_argument("--quiet", action="store_true", help="print errors alone")
-    said.add_argument("--verbose", action="store_true", help="print the program's message below each page, in pipes too")
+    it.add_argument("--quiet", dest="is_verbose", action="store_const", const=False, help="print errors alone")
+    it.add_argument("--verbose", dest="is_verbose", action="store_const", const=True,
+                    help="print the program's message below each page, in pipes too")
     return it
 
 
@@ -100,15 +68,6 @@ class _Records(argparse.Action):
 
     def __call__(self, _: argparse.ArgumentParser, namespace: argparse.Namespace, *__: object) -> None:
         setattr(namespace, self.dest, True)
-
-
-def _given(arguments: Sequence[str]) -> argparse.Namespace:
-    found = parser()
-    try:
-        defaults = shlex.split(os.environ.get("TABLELAYOUT_OPTIONS", ""))
-    except ValueError as fault:
-        found.error(f"TABLELAYOUT_OPTIONS: {fault}")
-    return found.parse_args([*defaults, *arguments])
 
 
 class _Fault(Exception):
@@ -125,27 +84,29 @@ class _Input(NamedTuple):
     kind: Kind
 
 
-def _read_input(given: argparse.Namespace) -> _Input:
+def _read(given: argparse.Namespace) -> _Input:
     try:
-        if given.file == "-":
-            data = terminal.read_input()
-        else:
-            with open(given.file, "rb") as file:
-                data = file.read()
+        data = read_input(given.file)
     except OSError as fault:
         raise _Fault(STATUS_READ_FAULT, ["read fault", f"{given.file}: {fault.strerror}"]) from None
+    except LongFile as fault:
+        raise _Fault(STATUS_LIMIT, [str(fault)]) from None
     return _Input(data, given.kind or kind_by_name(given.file) or kind_by_content(data))
 
 
-def _unchanged(given: argparse.Namespace, came: _Input) -> Optional[Source]:
-    """The file itself as a source, if nothing that is asked for changes it."""
-    if given.list or given.table is not None or given.encoding or given.rows or given.columns or given.records or has_marks(came.data):
+def _as_it_is(given: argparse.Namespace, came: _Input) -> Optional[Source]:
+    """The file itself as a source, if the program may read it and no option asks for more."""
+    more = [given.list, given.encoding, given.rows, given.columns, given.records]
+    if any(more) or given.table is not None or given.delimiter not in (None, ","):
         return None
     if came.kind == HTML:
         return Source(came.data)
-    if came.kind == CSV and (given.strict or find_delimiter(decode(came.data).text) == ",") and given.delimiter in (None, ","):
-        return Source(came.data, csv_words(given.head, given.least))
-    return None
+    return Source(came.data, csv_words(given.head, given.least)) if came.kind == CSV else None
+
+
+def _is_changed(came: _Input) -> bool:
+    """Whether the front reads the file in another way than the program, which would take it."""
+    return has_marks(came.data) or came.kind == CSV and find_delimiter(decode(came.data).text) != ","
 
 
 class _Show:
@@ -155,7 +116,7 @@ class _Show:
         self._given = given
         self._layouter = layouter
         self._room = terminal.columns()
-        self._says_numbers = given.verbose or terminal.is_terminal() and not given.quiet
+        self._says_numbers = terminal.is_terminal() if given.is_verbose is None else given.is_verbose
         options = Options(given.style, None, given.budget, given.solver, given.workers, ("--html",) if given.html else ())
         breaks = (given.breaking,) if given.breaking else BREAKS
         records = False if given.html or given.strict else given.records
@@ -163,10 +124,12 @@ class _Show:
 
     def run(self) -> int:
         """Shows the file, and returns the status."""
-        came = _read_input(self._given)
-        source = _unchanged(self._given, came)
+        came = _read(self._given)
+        source = _as_it_is(self._given, came)
         refused = None
-        if source is not None:
+        if self._given.strict and source is None:
+            raise _Fault(STATUS_USAGE, ["usage", "tablelayout show: --strict gives a file of HTML or CSV to the program as it is"])
+        if source is not None and (self._given.strict or not _is_changed(came)):
             try:
                 # If it is too narrow the front may still show its records.
                 way = self._way._replace(records=False)
@@ -186,7 +149,7 @@ class _Show:
         try:
             found = read_items(came.data, came.kind, reading)
         except MissingPackage as missing:
-            refused = refused or _Fault(_STATUS_FAILED, [])
+            refused = refused or _Fault(STATUS_FAILED, [])
             raise _Fault(refused.status, [*refused.lines, str(missing)]) from None
         except (BadChoice, LookupError) as fault:
             raise _Fault(STATUS_USAGE, ["usage", f"tablelayout show: {fault}"]) from None
@@ -252,9 +215,10 @@ def _line_of(number: int, item: Item) -> str:
 
 def main(arguments: Sequence[str]) -> int:
     """Runs ``show`` and returns its status: that of ``lay``, and with several tables the greatest."""
-    given = _given(arguments)
+    known = parser()
+    given = known.parse_args(with_defaults(known, arguments))
     try:
-        with Layouter() as layouter:
+        with Layouter(in_process=True) as layouter:
             return _Show(given, layouter).run()
     except _Fault as fault:
         terminal.write_message(fault.lines)
@@ -262,11 +226,12 @@ def main(arguments: Sequence[str]) -> int:
     except Error as error:
         terminal.write_message([error.message])
         return error.status
+    except MemoryError:
+        terminal.write_message(["out of memory"])
+        return STATUS_MEMORY
     except BrokenPipeError:
         # Who reads the page has read enough of it.
         return STATUS_WRITE_FAULT
     except OSError:
         terminal.write_message(["standard output could not be written"])
         return STATUS_WRITE_FAULT
-    except KeyboardInterrupt:
-        return _STATUS_INTERRUPTED

@@ -29,7 +29,7 @@ def _columns_of_control() -> Optional[int]:
 def columns() -> int:
     """The width: the environment's COLUMNS, that of the terminal, or 80; at most 500."""
     given = os.environ.get("COLUMNS", "")
-    found = int(given) if given.isdigit() and len(given) < 10 else 0
+    found = int(given) if given.isascii() and given.isdigit() and len(given) < 10 else 0
     found = found or _columns_of(1) or _columns_of_control() or _COLUMNS_OTHERWISE
     return min(found, _MOST_COLUMNS)
 
@@ -58,9 +58,3 @@ def write_message(lines: Sequence[str]) -> None:
         os.write(2, ("\n".join(lines) + "\n").encode("utf-8", "replace"))
     except OSError:
         pass
-
-
-def read_input() -> bytes:
-    """All of standard input. Raises OSError if it cannot be read."""
-    with open(0, "rb", closefd=False) as file:
-        return file.read()

@@ -34,7 +34,7 @@ def _shown_pages(name: str) -> str:
     with open(name, "rb") as file:
         data = file.read()
     way = Way(terminal.columns(), Options(_STYLE))
-    with Layouter() as layouter:
+    with Layouter(in_process=True) as layouter:
         shown = [lay_item(layouter, item, way) for item in _items(name, data)]
     return _joined([it.text for it in shown], [it.more for it in shown])
 
@@ -69,7 +69,7 @@ def _tidy_page(layouter: Layouter, item: Item) -> str:
 
 
 def _diffable(name: str, data: bytes) -> bytes:
-    with Layouter() as layouter:
+    with Layouter(in_process=True) as layouter:
         items = _items(name, data)
         text = _joined([_tidy_page(layouter, it) for it in items], [it.more for it in items])
     return text.encode("utf-8", "replace")

@@ -29,6 +29,13 @@ def parse(data: bytes, encoding: Optional[str] = None) -> Element:
     return tree
 
 
+def written(tree: Element) -> bytes:
+    """A parsed page in UTF-8, with all its tags. Raises MissingPackage."""
+    html5lib = need("html5lib", "python3-html5lib")
+    data: bytes = html5lib.serialize(tree, tree="etree", encoding="utf-8", omit_optional_tags=False, quote_attr_values="always")
+    return data
+
+
 def _default_encoding(data: bytes) -> str:
     try:
         data.decode("utf-8")
