@@ -1,9 +1,9 @@
 #!/usr/bin/env bash
 # How long a command takes to start: the program itself, the command that is installed and the launcher of this
-# checkout, each for a `lay` of the first example. Builds the program where it is missing. Prints for each the
-# milliseconds of processor time, which other work on the machine changes little, and those that pass, of a run: those of
-# the fastest of five times 20 runs. Fails where the processor time of the installed command is more than 4 ms above that
-# of the program, or that of the launcher more than 10.
+# checkout, each for a `lay` of the first example, and the installed `show` of it. Builds the program where it is missing.
+# Prints for each the milliseconds of processor time, which other work on the machine changes little, and those that pass,
+# of a run: those of the fastest of five times 20 runs. Fails where the processor time of the installed command is more
+# than 4 ms above that of the program, that of the launcher more than 10, or that of `show` more than 60.
 set -euo pipefail
 top=$(dirname "$(dirname "$(readlink -f "${BASH_SOURCE[0]}")")")
 room=$(mktemp -d)
@@ -36,4 +36,6 @@ measure installed "$room/installed/bin/tablelayout" "${arguments[@]}"
 [ $((microseconds - alone)) -le 4000 ] || failed=1
 measure checkout "$top/tablelayout" "${arguments[@]}"
 [ $((microseconds - alone)) -le 10000 ] || failed=1
+measure show "$room/installed/bin/tablelayout" show "$top/examples/first.html" --width 7
+[ $((microseconds - alone)) -le 60000 ] || failed=1
 exit "$failed"

@@ -6,7 +6,11 @@ _tablelayout_options() {
     case $1 in
     show | lay | narrow | tidy | preview | check) echo --style --break --budget --workers --csv --head --least ;;&
     show | lay | narrow | tidy | preview) echo --solver --html ;;&
-    show) echo --width --quiet ;;
+    show | page) echo --width ;;&
+    show)
+        echo --table --list --json --markup --delimiter --encoding --rows --columns --records --strict --quiet --verbose
+        ;;
+    page) echo --from ;;
     esac
 }
 
@@ -23,7 +27,7 @@ _tablelayout() {
     local current=${COMP_WORDS[COMP_CWORD]} words option
     COMPREPLY=()
     if [ "$COMP_CWORD" -eq 1 ]; then
-        words='show lay narrow tidy check demo preview install uninstall help'
+        words='show page lessopen textconv lay narrow tidy check demo preview install uninstall help'
     elif [[ $current == -* ]]; then
         # An option stands at most once.
         for option in $(_tablelayout_options "${COMP_WORDS[1]}"); do

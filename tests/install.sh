@@ -20,14 +20,23 @@ unset DESTDIR
 to=$room/empty
 mkdir "$to"
 all_of "$checkout/tablelayout" install "$to" | expect_text "status 0" "by install"
-names "$to" | expect_text "bin
+readonly MODULES=libexec/tablelayout/python/tablelayout
+# The modules of the package in a folder, without those that Python has compiled.
+modules() {
+    names "$1" | grep -v '^__pycache__'
+}
+modules "$checkout/integrations/python/tablelayout" >"$room/modules"
+modules "$to/$MODULES" | expect "$room/modules" "as modules"
+names "$to/$MODULES/__pycache__" | sed 's/\..*/.py/' | expect <(grep '\.py$' "$room/modules") "compiled"
+names "$to" | grep -v "^$MODULES/" | expect_text "bin
 bin/tablelayout
 libexec
 libexec/tablelayout
 libexec/tablelayout/folders
-libexec/tablelayout/place.awk
-libexec/tablelayout/record.awk
-libexec/tablelayout/show
+libexec/tablelayout/python
+libexec/tablelayout/python/front
+libexec/tablelayout/python/start.py
+libexec/tablelayout/python/tablelayout
 libexec/tablelayout/tablelayout
 share
 share/bash-completion
@@ -50,8 +59,11 @@ cd "$room/tables" || exit 1
 echo '<table><tr><td>aaa bbb<td>cc dd ee</table>' >in.html
 printf '<table>\n<tr><td><img>' >refused.html
 tablelayout | head -n 1 | expect_text "Lays an HTML table out on a page of fixed-width text, as low as any can be." "without arguments"
-all_of tablelayout show in.html --width 12 | expect_text $'aaa cc dd\nbbb ee   \nlowest height 2 width 9\nstatus 0' "by show"
-all_of tablelayout show <refused.html | expect_text $'bad input: unknown element at 16\nline 2, column 9:\n<tr><td><img>\n        ^\nstatus 5' "by show of a refusal"
+all_of tablelayout show in.html --width 12 | expect_text $'aaa cc dd\nbbb ee   \nstatus 0' "by show"
+all_of tablelayout show --strict <refused.html | expect_text $'bad input: unknown element at 16\nline 2, column 9:\n<tr><td><img>\n        ^\nstatus 5' "by show of a refusal"
+printf 'a,b\nc,"d e"\n' >in.csv
+all_of tablelayout lessopen in.csv | expect_text $'a b  \nc d e\nstatus 0' "by lessopen"
+all_of tablelayout textconv in.csv | expect_text $'a b\nc d e\nstatus 0' "by textconv"
 all_of tablelayout lay 12 in.html page.txt page.cert | expect_text $'lowest height 2 width 10\nstatus 0' "by lay"
 expect_text $'aaa  cc dd\nbbb  ee   ' "as the page" <page.txt
 all_of tablelayout check 12 in.html page.cert | expect_text $'lowest height 2 width 10\nstatus 0' "by check"
@@ -60,6 +72,7 @@ all_of tablelayout tidy 12 in.html page.txt | expect_text $'tidy height 2 width 
 all_of tablelayout demo 0 | expect_text $'cells 159 count 185118922800 height 130 lower 130 cuts 7\nstatus 0' "by demo"
 all_of tablelayout preview 12 in.html | expect_text $'aaa  cc dd\nbbb  ee   \nlowest height 2 width 10\nstatus 0' "by preview"
 if command -v pandoc >/dev/null; then
+    all_of tablelayout page in.html --width 12 | expect_text $'aaa cc dd\nbbb ee\nstatus 0' "by page"
     # The filter finds the command beside it, which is not in the path.
     PATH=/usr/bin:/bin all_of pandoc -t plain --columns 12 --data-dir "$to/share/pandoc" --lua-filter tablelayout.lua \
         <<<'<table><tr><td>aaa bbb</td><td>cc dd ee</td></tr></table>' -f html |
@@ -71,13 +84,13 @@ all_of tablelayout uninstall "$to" | expect_text $'usage\nstatus 2' "by uninstal
 mv "$room/away" "$checkout"
 
 # Installed a second time, over what an earlier version left, it is still removed with each folder that was made for it.
-touch "$to/libexec/tablelayout/tl_program"
+touch "$to"/libexec/tablelayout/{tl_program,show,place.awk,record.awk} "$to/$MODULES/former.py" "$to/$MODULES/__pycache__/former.pyc"
 all_of "$checkout/tablelayout" install "$to/" | expect_text "status 0" "by a second install"
-names "$to/libexec/tablelayout" | expect_text "folders
-place.awk
-record.awk
-show
+names "$to/libexec/tablelayout" | grep -v / | expect_text "folders
+python
 tablelayout" "over an earlier version"
+modules "$to/$MODULES" | expect "$room/modules" "as modules over an earlier version"
+names "$to/$MODULES/__pycache__" | sed 's/\..*/.py/' | expect <(grep '\.py$' "$room/modules") "compiled over an earlier version"
 all_of "$checkout/tablelayout" uninstall "$to" | expect_text "status 0" "by uninstall"
 names "$to" | expect_text "" "and left"
 all_of "$checkout/tablelayout" uninstall "$to" | expect_text "tablelayout: it is not installed in $to
@@ -107,7 +120,7 @@ DESTDIR=$to "$checkout/tablelayout" install /usr/local
 DESTDIR=$to "$checkout/tablelayout" uninstall /usr/local
 cd "$to" || exit 1
 "$checkout/tablelayout" install "a b/c"
-"a b/c/bin/tablelayout" show "$room/tables/in.html" --quiet --width 12 | expect_text $'aaa cc dd\nbbb ee   ' "below a relative PREFIX"
+"a b/c/bin/tablelayout" show "$room/tables/in.html" --width 12 | expect_text $'aaa cc dd\nbbb ee   ' "below a relative PREFIX"
 "$checkout/tablelayout" uninstall "a b/c"
 names "$to" | expect_text "" "and left below DESTDIR"
 
@@ -151,7 +164,7 @@ done
 rm -r "$to/file" "$to/folder"
 # Over another version, of which all stays, where the last of its places is a folder.
 "$checkout/tablelayout" install "$to/over"
-echo "another version" | tee "$to"/over/libexec/tablelayout/{show,place.awk} >"$to/over/bin/tablelayout"
+echo "another version" | tee "$to"/over/libexec/tablelayout/{show,python/front} "$to/over/$MODULES/former.py" >"$to/over/bin/tablelayout"
 mkdir "$to/over/libexec/tablelayout/tl_program"
 leaves "$to" "$checkout/tablelayout" install "$to/over"
 leaves "$to" "$checkout/tablelayout" uninstall "$to/over"
@@ -165,7 +178,7 @@ exec /usr/bin/install "$@"
 INSTALL
 cat >"$room/ends/mv" <<'MV'
 #!/bin/sh
-[ "${2%/show.*.new}" = "$2" ] || { kill "$PPID" && exit 1; }
+[ "${2%/show.py.*.new}" = "$2" ] || { kill "$PPID" && exit 1; }
 exec /usr/bin/mv "$@"
 MV
 chmod +x "$room/ends/install" "$room/ends/mv"
@@ -182,7 +195,7 @@ if [ "$(id -u)" = 0 ]; then
 fi
 if [ "$(id -u)" != 0 ] || command -v setpriv >/dev/null; then
     [ ${#another[@]} = 0 ] || chown -R 65534:65534 "$to/over"
-    for folder in over/share/man/man1 over/libexec/tablelayout over/bin; do
+    for folder in over/share/man/man1 over/libexec/tablelayout "over/$MODULES" over/bin; do
         chmod 555 "$to/$folder"
         leaves "$to" "${another[@]}" "$checkout/tablelayout" install "$to/over"
         leaves "$to" "${another[@]}" "$checkout/tablelayout" uninstall "$to/over"

@@ -80,6 +80,12 @@ done
 asked | expect_text "" "by rt for no file"
 names "$TMPDIR" | expect_text "" "and left by previews"
 
+# Who shows a file for another program waits for no proof.
+printf 'a,b\nc,d\n' >"$room/in.csv"
+all_of "$checkout/tablelayout" lessopen "$room/in.csv" | expect_text "status 0" "by lessopen before the program is built"
+all_of "$checkout/tablelayout" textconv "$room/in.csv" | expect_text $'a,b\nc,d\nstatus 0' "by textconv before the program is built"
+asked | expect_text "" "by rt for less and git"
+
 # What may be one is for the program.
 told_by "$checkout/tablelayout" lay 9 in page | expect_text $'program lay 9 in page\nstatus 0' "by lay"
 asked | expect_text "$PROVED" "by rt for a first lay"
@@ -91,7 +97,15 @@ all_of "$checkout/tablelayout" preview 9 in --html | expect_text $'program lay 9
 (cd "$checkout" && sh tablelayout demo 1) | expect_text "program demo 1" "without a folder in its name"
 ln -s "$checkout/tablelayout" "$room/bin/linked"
 linked demo 1 | expect_text "program demo 1" "by a link"
-COLUMNS=7 "$checkout/tablelayout" show "" 2>&1 | expect_text "program lay 7  /dev/fd/3 --style compact" "by show with COLUMNS"
+# The front runs the program that is here, and says that this one answers as none does.
+shown() {
+    "$checkout/tablelayout" show "$@" 2>&1 | sed 's,/proc/self/fd/[0-9]*,FILE,g'
+}
+echo '<table>' >"$room/in.html"
+COLUMNS=7 shown "$room/in.html" | expect_text "the program's message is 'program lay 7 FILE FILE --style compact --break words'" \
+    "by show with COLUMNS"
+TABLELAYOUT=$room/none shown "$room/in.html" --width 8 --break any |
+    expect_text "the program's message is 'program lay 8 FILE FILE --style compact --break any'" "by show where the environment names a command"
 asked | expect_text "" "by rt for a program that is built"
 
 # Where nothing changed, one process looks for what is newer.

@@ -4,9 +4,10 @@
     tests/manual.py
 
 The usage of each command, the options with their values, the settings of the filter for pandoc, the statuses with their
-messages, the kinds of bad input, the limits and the reasons of a rejection have to be the same in the documents and in the manual page; the help has the same
-commands, options and statuses, and the completion of bash offers the options and the values of each command. If all
-agree it prints nothing. Otherwise it prints each difference, and ends with 1.
+messages, the kinds of bad input, the limits and the reasons of a rejection have to be the same in the documents and in the
+manual page; the help has the same commands, options and statuses, that of a command of the front the options of that
+command, and the completion of bash offers the options and the values of each command. If all agree it prints nothing.
+Otherwise it prints each difference, and ends with 1.
 """
 import re
 import subprocess
@@ -17,6 +18,7 @@ TOP = Path(__file__).resolve().parent.parent
 DOCUMENTS = ("docs/COMMAND.md", "docs/SHOW.md", "docs/PANDOC.md")
 MANUAL = TOP / "command/tablelayout.1"
 COMPLETION = TOP / "command/completion.bash"
+FRONT = ("show", "page")
 # Each option of `lay`.
 MORE_OPTIONS = "[OPTION ..]"
 LITERAL = re.compile(r"`([^`]*)`")
@@ -133,6 +135,12 @@ def read_help(text):
     }
 
 
+def read_help_of(command):
+    """The options that the help of a command of the front has."""
+    shown = subprocess.run([TOP / "tablelayout", command, "--help"], stdout=subprocess.PIPE, check=True).stdout.decode()
+    return set(re.findall(r"^  (?:-\w, )?(--\w+)", shown, re.M)) - {"--help"}
+
+
 def options_by_command(usage):
     """The names of the options that each command takes."""
     of = {command: set(re.findall(r"--\w+", words)) for command, words in usage.items()}
@@ -153,7 +161,7 @@ def read_completion(options, by_command):
         "option of a command": {it: completed(["tablelayout", it, "a", "--"]) for it in by_command},
     }
     for name in options:
-        command = next(it for it in ("lay", "show") if name in by_command[it])
+        command = next(it for it, names in by_command.items() if name in names)
         offered[f"beginning of {name}"] = completed(["tablelayout", command, "a", name[:-1]])
         offered[f"value of {name}"] = completed(["tablelayout", command, "a", name, ""])
         offered[f"{name} once given"] = completed(["tablelayout", command, name, name])
@@ -197,6 +205,8 @@ def main():
     manual = MANUAL.read_text(encoding="utf-8")
     count = count_differences("the manual page", said, read_manual(manual))
     count += count_differences("the help", short, read_help(shown))
+    helps = {it: read_help_of(it) for it in FRONT}
+    count += count_differences("the help of a command", {"option": {it: by_command[it] for it in FRONT}}, {"option": helps})
     count += count_differences("the completion", wanted_of_completion(said["option"], by_command),
                                read_completion(said["option"], by_command))
     return 1 if count else 0

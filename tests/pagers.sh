@@ -5,9 +5,8 @@ top=$(dirname "$(dirname "$(readlink -f "${BASH_SOURCE[0]}")")")
 # shellcheck source=tests/common.bash
 . "$top/tests/common.bash"
 mkdir "${room:?}/bin" "$room/work"
-ln -s "$top/integrations/python/front" "$room/bin/tablelayout-front"
+ln -s "$top/tablelayout" "$room/bin"
 PATH=$room/bin:$PATH
-export TABLELAYOUT=${program:?}
 unset COLUMNS TABLELAYOUT_OPTIONS
 export TERM=dumb HOME=$room/work GIT_CONFIG_NOSYSTEM=1
 cd "$room/work" || exit 1
@@ -19,24 +18,24 @@ has() {
     command -v "$1" >/dev/null || { skip "there is no $1" && return 1; }
 }
 
-tablelayout-front show --csv --head <stock.csv | expect_text "$wanted" "of standard input"
-TABLELAYOUT_OPTIONS='--style frame' tablelayout-front show stock.csv | head -n 1 | expect_text "+--------+----+" "with options of the environment"
+tablelayout show --csv --head <stock.csv | expect_text "$wanted" "of standard input"
+TABLELAYOUT_OPTIONS='--style frame' tablelayout show stock.csv | head -n 1 | expect_text "+--------+----+" "with options of the environment"
 if has sqlite3; then
     sqlite3 stock.db -cmd '.mode csv' '.import stock.csv stock'
-    sqlite3 -csv -header stock.db 'select * from stock' | tablelayout-front show --csv --head | expect_text "$wanted" "of sqlite3"
+    sqlite3 -csv -header stock.db 'select * from stock' | tablelayout show --csv --head | expect_text "$wanted" "of sqlite3"
 fi
 if has jq; then
     jq -n '{items: [{item: "lamp oil", left: 3}, {item: "rope", left: 12}]}' >stock.json
-    jq '.items' stock.json | tablelayout-front show --json | expect_text "$wanted" "of jq"
+    jq '.items' stock.json | tablelayout show --json | expect_text "$wanted" "of jq"
 fi
 if has less; then
-    LESSOPEN='|tablelayout-front lessopen %s' less stock.csv | expect_text "$wanted" "by less"
+    LESSOPEN='|tablelayout lessopen %s' less stock.csv | expect_text "$wanted" "by less"
     cp stock.csv stock.txt
-    LESSOPEN='|tablelayout-front lessopen %s' less stock.txt | expect stock.csv "by less of another file"
+    LESSOPEN='|tablelayout lessopen %s' less stock.txt | expect stock.csv "by less of another file"
 fi
 if has git; then
     git init -q . 2>/dev/null
-    git config diff.table.textconv 'tablelayout-front textconv'
+    git config diff.table.textconv 'tablelayout textconv'
     printf '*.csv diff=table\n*.html diff=table\n' >.gitattributes
     printf '<p>no table' >text.html
     git add stock.csv text.html
@@ -63,8 +62,8 @@ start_server() {
 if has psql && start_server; then
     export PGHOST=$room/server PGUSER=postgres
     query="select 'lamp oil' as item, 3 as left union all select 'rope', 12"
-    echo "$query \\g (format=csv) | tablelayout-front show --csv --head -" | psql -Xq | expect_text "$wanted" "of psql"
-    printf '%s\n' '\pset format csv' "\\setenv PSQL_PAGER 'tablelayout-front show --csv --head -'" '\pset pager always' "$query;" >always.sql
+    echo "$query \\g (format=csv) | tablelayout show --csv --head -" | psql -Xq | expect_text "$wanted" "of psql"
+    printf '%s\n' '\pset format csv' "\\setenv PSQL_PAGER 'tablelayout show --csv --head -'" '\pset pager always' "$query;" >always.sql
     if command -v script >/dev/null; then
         TERM=xterm NO_COLOR=1 script -qec "stty rows 24 cols 40; psql -Xqf always.sql" /dev/null </dev/null | tr -d '\r' | head -n 3 |
             expect_text "$wanted" "of psql with its pager"
