@@ -11,6 +11,7 @@ _tablelayout_options() {
         echo --table --list --json --markup --delimiter --encoding --rows --columns --records --strict --quiet --verbose
         ;;
     page) echo --from ;;
+    textconv) echo --widths ;;
     esac
 }
 

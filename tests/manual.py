@@ -18,7 +18,7 @@ TOP = Path(__file__).resolve().parent.parent
 DOCUMENTS = ("docs/COMMAND.md", "docs/SHOW.md", "docs/PANDOC.md")
 MANUAL = TOP / "command/tablelayout.1"
 COMPLETION = TOP / "command/completion.bash"
-FRONT = ("show", "page")
+FRONT = ("show", "page", "textconv")
 # Each option of `lay`.
 MORE_OPTIONS = "[OPTION ..]"
 LITERAL = re.compile(r"`([^`]*)`")

@@ -41,7 +41,19 @@ if has git; then
     git add stock.csv text.html
     sed -i 's/12/10/' stock.csv
     printf ' here' >>text.html
-    git diff --no-color -U0 | grep -E '^[-+][^-+]' | expect_text $'-rope     12\n+rope     10\n-<p>no table\n+<p>no table here' "by git diff"
+    changed() {
+        git diff --no-color -U0 | grep -E '^[-+][^-+]'
+    }
+    changed | expect_text $'-rope     12\n+rope     10\n-<p>no table\n+<p>no table here' "by git diff"
+    # A longer cell makes its column wider on the page that serves best, and changes its own line alone where it fits.
+    git add -A .
+    sed -i 's/rope/a long rope/' stock.csv
+    changed | grep -c '^+' | expect_text 3 "lines by git diff of a longer cell"
+    git config diff.stock.textconv 'tablelayout textconv --widths 20,6'
+    echo 'stock.csv diff=stock' >>.gitattributes
+    changed | expect_text $'+stock.csv diff=stock\n-rope                 10\n+a long rope          10' "by git diff with widths"
+    tablelayout show --html --width 120 stock.csv | sed -n '/^<colgroup>/p' | grep -o '[0-9]*ch' | tr -d ch | paste -sd , |
+        expect_text 11,4 "as the widths of a file"
 fi
 # Starts a server of its own in a folder of its own, reached by a socket there alone.
 start_server() {

@@ -11,7 +11,8 @@ python=python3
 python=${1-$python}
 # The tests leave no compiled files in the checkout.
 export PYTHONDONTWRITEBYTECODE=1 TABLELAYOUT_PROGRAM=${program:?}
-"$python" -c 'import html5lib' 2>/dev/null || skip "there is no html5lib (python3-html5lib), so pages of HTML are not tried"
+"$python" -c 'import sys; sys.path.append("/usr/lib/python3/dist-packages"); import html5lib' 2>/dev/null ||
+    skip "there is no html5lib (python3-html5lib), so pages of HTML are not tried"
 "$python" -c 'import rich' 2>/dev/null || skip "there is no rich (python3-rich), so pages in it are not tried"
 said=$(cd "$top/tests/python" && "$python" -m unittest 2>&1) || { echo "$said" && touch "$failed"; }
 

@@ -336,6 +336,32 @@ class Viewers(unittest.TestCase):
             ran = self.run_on("textconv", name, data)
             self.assertEqual((ran.text.encode(), ran.status, ran.said), (data, 0, ""))
         self.assertEqual(Run("textconv", "/no/such/file").status, 7)
+        (self.room / "-f.csv").write_bytes(SHIPS)
+        self.assertEqual(Run("textconv", "-f.csv", cwd=self.room).lines[0], "name  depth note")
+
+    def test_textconv_of_widths(self):
+        for widths, wanted in (
+            ("8,6,4", ["name     depth  note", "Leith    9      deep", "Ayr      4"]),
+            ("5,5,4", ["name  depth note", "Leith 9     deep", "Ayr   4"]),
+            # A word is wider than its column, the columns are others, or no page is so wide: the tidy page.
+            ("8,6,3", ["name  depth note", "Leith 9     deep", "Ayr   4"]),
+            ("8,6", ["name  depth note", "Leith 9     deep", "Ayr   4"]),
+            ("300,300,9", ["name  depth note", "Leith 9     deep", "Ayr   4"]),
+        ):
+            with self.subTest(widths=widths):
+                (self.room / "a.csv").write_bytes(SHIPS)
+                self.assertEqual(Run("textconv", "--widths", widths, self.room / "a.csv").lines, wanted)
+        self.assertEqual(Run("textconv", "--widths", "8,x", self.room / "a.csv").status, 2)
+
+    @common.needs_parser
+    def test_textconv_of_widths_in_pages(self):
+        html = b"""<!DOCTYPE html><table><tr><td colspan=2>a b c d e<tr><td rowspan=2>f<td>g h<tr><td>i</table>
+            <table><tr><td><ul><li>one two</ul></table><table><tr><td colspan=2>j</table><table><tr><td colspan=2>k<tr><td colspan=2>l l</table>"""
+        (self.room / "a.html").write_bytes(html)
+        ran = Run("textconv", "--widths", "4,3", self.room / "a.html")
+        # The last two have one column: a page has none where no cell begins.
+        self.assertEqual(ran.lines, ["a b c d", "e", "f    g h", "     i", "", "- one two", "", "j", "", "k", "l l"])
+        self.assertEqual(Run("textconv", "--widths", "6", self.room / "a.html").lines[4:], ["- one", "two", "", "j", "", "k", "l l"])
 
 
 class Page(unittest.TestCase):

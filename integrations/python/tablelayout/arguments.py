@@ -8,7 +8,7 @@ from typing import List, NoReturn, Sequence
 from . import terminal
 
 STATUS_USAGE = 2
-_MOST_WIDTH, _MOST_WIDTHS = 500, 60
+MOST_WIDTH, _MOST_WIDTHS = 500, 60
 
 
 class _Help(argparse.HelpFormatter):
@@ -39,16 +39,16 @@ def whole_number(text: str) -> int:
 
 def width_of_page(text: str) -> int:
     """The width of a page, in columns. Raises ArgumentTypeError."""
-    if not text.isascii() or not text.isdigit() or not 1 <= int(text) <= _MOST_WIDTH:
-        raise argparse.ArgumentTypeError(f"{text} is no width from 1 to {_MOST_WIDTH}")
+    if not text.isascii() or not text.isdigit() or not 1 <= int(text) <= MOST_WIDTH:
+        raise argparse.ArgumentTypeError(f"{text} is no width from 1 to {MOST_WIDTH}")
     return int(text)
 
 
 def widths_of_columns(text: str) -> "tuple[int, ...]":
     """A list of widths, as ``5,0,12``, in columns of text. Raises ArgumentTypeError."""
     widths = tuple(whole_number(it) for it in text.split(","))
-    if len(widths) > _MOST_WIDTHS or max(widths) > _MOST_WIDTH:
-        raise argparse.ArgumentTypeError(f"{text} is no list of at most {_MOST_WIDTHS} widths up to {_MOST_WIDTH}")
+    if len(widths) > _MOST_WIDTHS or max(widths) > MOST_WIDTH:
+        raise argparse.ArgumentTypeError(f"{text} is no list of at most {_MOST_WIDTHS} widths up to {MOST_WIDTH}")
     return widths
 
 

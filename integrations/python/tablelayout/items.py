@@ -1,7 +1,7 @@
 """What is shown of a file: its tables, each as a source for the program."""
 from __future__ import annotations
 
-from typing import TYPE_CHECKING, Callable, List, NamedTuple, Optional
+from typing import TYPE_CHECKING, Callable, List, NamedTuple, Optional, Sequence
 
 from .decoding import decode
 from .kinds import CSV, HTML, JSON_LINES, Kind
@@ -20,7 +20,8 @@ class Item(NamedTuple):
     """One table: its source, and what is known of it.
 
     ``blank`` stands in its page for a space. ``more`` says what of it is left out. ``columns`` makes the columns of its
-    records, if it has records.
+    records, if it has records. ``with_widths`` makes the source with least widths of all columns, in columns of text, or
+    None if these are not the widths of its columns.
     """
 
     source: Source
@@ -31,6 +32,7 @@ class Item(NamedTuple):
     blank: str = ""
     more: str = ""
     columns: Callable[[], "Optional[Columns]"] = lambda: None
+    with_widths: Callable[[Sequence[int]], Optional[Source]] = lambda _: None
 
 
 class Found(NamedTuple):
@@ -72,7 +74,13 @@ def item_of_records(records: List[Record], has_head: bool, reading: Reading) -> 
     rows = len(chosen) - (has_head and bool(chosen))
     words = _first_words(" ".join(clean[0])) if clean else ""
     more = f"{part.rest()}; --rows and --columns choose others" if part.rest() else ""
-    return Item(source, rows, width, first_words=words, more=more, columns=lambda: _columns_of(clean, has_head))
+    return Item(source, rows, width, first_words=words, more=more, columns=lambda: _columns_of(clean, has_head),
+                with_widths=lambda widths: _with_widths(source, clean, widths))
+
+
+def _with_widths(source: Source, records: List[Record], widths: Sequence[int]) -> Optional[Source]:
+    has_all = len(widths) == len(records[0]) if records else False
+    return source._replace(words=csv_words("--head" in source.words, widths)) if has_all else None
 
 
 def _columns_of(records: List[Record], has_head: bool) -> "Columns":

@@ -23,7 +23,7 @@ class Part(NamedTuple):
         return in_words(self.more_rows, self.more_columns)
 
 
-def _columns_begun(table: Table) -> List[int]:
+def columns_begun(table: Table) -> List[int]:
     """The columns in which a cell begins: the others take no room."""
     return sorted({cell.column for row in table.rows for cell in row})
 
@@ -53,7 +53,7 @@ def _first_rows(groups: List[Group], count: int) -> List[Group]:
 
 def first_part(table: Table, most_rows: int = MOST_ROWS) -> Part:
     """As many of the first rows, at most so many, and of the first columns as the program takes."""
-    begun = _columns_begun(table)
+    begun = columns_begun(table)
     groups = table.groups
     if len(begun) > MOST_COLUMNS:
         end = begun[MOST_COLUMNS]

@@ -1,12 +1,12 @@
 """Tables of pages as files of the subset of HTML that the program reads (docs/READING.md)."""
 from __future__ import annotations
 
-from typing import List, NamedTuple, Tuple
+from typing import Dict, List, NamedTuple, Optional, Sequence, Tuple
 from xml.etree.ElementTree import Element
 
 from .flow import Block, blocks_of, flat_blocks_of
 from .forming import Cell, Table, form
-from .limits import first_part
+from .limits import columns_begun, first_part
 from .sizes import MOST_DEPTH, MOST_TABLES
 from .texts import BLANK, blank_for
 
@@ -32,11 +32,28 @@ def paragraph_html(lines: Tuple[str, ...]) -> str:
     return "<p>" + "<br>".join(escaped(line) for line in lines) + "</p>"
 
 
+# The least widths of cells, in columns of text.
+Floors = Dict[Element, int]
+
+
+def floors_of(table: Table, widths: Sequence[int]) -> Optional[Floors]:
+    """For each column the floor of one of its cells, so that the column is at least so wide.
+
+    None if the table has not as many columns, or a column has no cell of its own.
+    """
+    columns = columns_begun(table)
+    own = {cell.column: cell.element for row in table.rows for cell in row if cell.columns == 1}
+    if len(columns) != len(widths) or not own.keys() >= set(columns):
+        return None
+    return {own[column]: width for column, width in zip(columns, widths)}
+
+
 class _Writer:
     """Writes one file, with no more tables inside one another, and in all, than the program takes."""
 
-    def __init__(self) -> None:
+    def __init__(self, floors: Optional[Floors] = None) -> None:
         self._tables = 0
+        self._floors = floors or {}
 
     def flow(self, blocks: List[Block], depth: int) -> str:
         """The content of a cell that is inside so many tables: paragraphs, and tables in it."""
@@ -52,6 +69,8 @@ class _Writer:
     def _cell(self, cell: Cell, depth: int) -> str:
         name = "th" if cell.is_header else "td"
         spans = "".join(f" {attribute}={count}" for attribute, count in (("colspan", cell.columns), ("rowspan", cell.rows)) if count > 1)
+        floor = self._floors.get(cell.element, 0)
+        spans += f" data-min={floor}" if floor else ""
         return f"<{name}{spans}>{self.flow(blocks_of(cell.element), depth)}</{name}>"
 
     def table(self, table: Table, depth: int) -> str:
@@ -71,9 +90,9 @@ def flow_html(blocks: List[Block]) -> str:
     return _Writer().flow(blocks, 1)
 
 
-def table_html(table: Table) -> str:
+def table_html(table: Table, floors: Optional[Floors] = None) -> str:
     """A table of a page as a file, with BLANK in it."""
-    return _Writer().table(table, 0)
+    return _Writer(floors).table(table, 0)
 
 
 def file_of(html: str) -> File:

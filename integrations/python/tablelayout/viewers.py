@@ -1,21 +1,23 @@
 """Tables for programs that show files: ``lessopen`` for less, ``textconv`` for git."""
 from __future__ import annotations
 
-import os
-from typing import List, Sequence
+from typing import List, Optional, Sequence
 
 from . import terminal
+from .arguments import MOST_WIDTH, STATUS_USAGE, Parser, widths_of_columns
 from .errors import Error, TooNarrow
 from .faults import BadChoice, BadFile, MissingPackage, PandocFault
 from .items import Item, Reading, read_items
 from .kinds import CSV, HTML, kind_by_content, kind_by_name
 from .laying import BREAKS, Way, lay_item
 from .layouter import Layouter
+from .pages import TidyPage
 from .sources import Options
 
-STATUS_USAGE, STATUS_READ_FAULT, STATUS_WRITE_FAULT = 2, 7, 8
-_FAULTS = (Error, MissingPackage, PandocFault, BadFile, BadChoice, LookupError, OSError)
-_STYLE = "compact"
+STATUS_READ_FAULT, STATUS_WRITE_FAULT = 7, 8
+_FAULTS = (Error, MissingPackage, PandocFault, BadFile, BadChoice, LookupError, OSError, MemoryError)
+# The style, and the spaces that it has between columns.
+_STYLE, _GAP = "compact", 1
 # A diff is read on other terminals than the one on which it is made.
 _DIFF_COLUMNS = 120
 
@@ -53,40 +55,69 @@ def lessopen(arguments: Sequence[str]) -> int:
     return 0
 
 
-def _tidy_page(layouter: Layouter, item: Item) -> str:
+def _page_of_widths(layouter: Layouter, item: Item, widths: Sequence[int]) -> Optional[TidyPage]:
+    """The page whose columns have these widths; None if they are not those of the table, or a word is wider than its column."""
+    source = item.with_widths(widths)
+    # A page that is no wider than its columns at their least leaves them no choice.
+    columns = sum(widths) + _GAP * (len(widths) - 1)
+    if source is None or not 1 <= columns <= MOST_WIDTH:
+        return None
+    try:
+        return layouter.tidy_source(source, columns, Options(_STYLE, BREAKS[0]))
+    except TooNarrow:
+        return None
+
+
+def _tidy_page(layouter: Layouter, item: Item) -> TidyPage:
     """The page that is the same whatever the search."""
-    for breaking in BREAKS:
+    for breaking in BREAKS[:-1]:
         try:
-            page = layouter.tidy_source(item.source, _DIFF_COLUMNS, Options(_STYLE, breaking))
+            return layouter.tidy_source(item.source, _DIFF_COLUMNS, Options(_STYLE, breaking))
         except TooNarrow:
-            if breaking == BREAKS[-1]:
-                raise
-            continue
-        break
+            pass
+    return layouter.tidy_source(item.source, _DIFF_COLUMNS, Options(_STYLE, BREAKS[-1]))
+
+
+def _diffable_page(layouter: Layouter, item: Item, widths: Sequence[int]) -> str:
+    page = (_page_of_widths(layouter, item, widths) if widths else None) or _tidy_page(layouter, item)
     text = page.text.replace(item.blank, " ") if item.blank else page.text
     # A line that ends in spaces is marked in a diff.
     return "".join(line.rstrip() + "\n" for line in text.splitlines())
 
 
-def _diffable(name: str, data: bytes) -> bytes:
+def _diffable(name: str, data: bytes, widths: Sequence[int]) -> bytes:
     with Layouter(in_process=True) as layouter:
         items = _items(name, data)
-        text = _joined([_tidy_page(layouter, it) for it in items], [it.more for it in items])
+        text = _joined([_diffable_page(layouter, it, widths) for it in items], [it.more for it in items])
     return text.encode("utf-8", "replace")
 
 
+def _parser() -> Parser:
+    it = Parser("textconv", "Prints the tables of a file for a diff, or the file itself. The file is the last argument.")
+    it.add_argument("--widths", type=widths_of_columns, default=(), metavar="LIST",
+                    help="the widths of the columns, as 12,30,8, for tables of so many columns where each word fits its column")
+    return it
+
+
 def textconv(arguments: Sequence[str]) -> int:
-    """Prints the tables of a file for a diff, each on its tidy page; the file itself where that fails, or it has none."""
-    if len(arguments) != 1:
-        return STATUS_USAGE
+    """Prints the tables of a file for a diff; the file itself where that fails, or it has none.
+
+    A table whose columns have the widths of ``--widths`` has them; any other is on its tidy page.
+    """
+    parser = _parser()
+    # git names a file as it is, with `-` at its beginning too.
+    given = parser.parse_args(arguments[:-1] if arguments[-1:] != ["--help"] else arguments)
+    if not arguments:
+        parser.error("a file is missing")
+    name = arguments[-1]
     try:
-        with open(arguments[0], "rb") as file:
+        with open(name, "rb") as file:
             data = file.read()
     except OSError as fault:
-        terminal.write_message([f"{arguments[0]}: {os.strerror(fault.errno or 0)}"])
+        terminal.write_message([f"{name}: {fault.strerror}"])
         return STATUS_READ_FAULT
     try:
-        text = _diffable(arguments[0], data) or data
+        text = _diffable(name, data, given.widths) or data
     except _FAULTS:
         text = data
     try:

@@ -1,7 +1,7 @@
 """The tables of a page of HTML."""
 from __future__ import annotations
 
-from typing import List, Optional, Tuple
+from typing import List, Optional, Sequence, Tuple
 from xml.etree.ElementTree import Element
 
 from .flow import blocks_of
@@ -10,7 +10,7 @@ from .items import Item
 from .limits import Part, first_part
 from .sizes import MOST_BYTES
 from .sources import Source
-from .subset import File, file_of, table_html
+from .subset import File, file_of, floors_of, table_html
 from .texts import BLANK
 from .vertical import columns_of_table
 from .web import parse, tables_of
@@ -44,6 +44,11 @@ def _file_of_part(table: Table) -> Tuple[File, Part]:
     return file, part
 
 
+def _with_widths(table: Table, widths: Sequence[int]) -> Optional[Source]:
+    floors = floors_of(table, widths)
+    return None if floors is None else Source(file_of(table_html(table, floors)).data)
+
+
 def item_of(element: Element) -> Item:
     """The item of a table of a parsed page."""
     table = form(element)
@@ -51,7 +56,7 @@ def item_of(element: Element) -> Item:
     caption = " ".join(_words(it) for it in table.captions)
     cells = [cell.element for row in table.rows for cell in row]
     return Item(Source(file.data), len(table.rows), table.columns, caption, _first_words(cells), file.blank, part.rest(),
-                lambda: columns_of_table(part.table))
+                lambda: columns_of_table(part.table), lambda widths: _with_widths(part.table, widths))
 
 
 def items_of_page(data: bytes, encoding: Optional[str]) -> List[Item]:
