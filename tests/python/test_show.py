@@ -187,6 +187,11 @@ class Show(unittest.TestCase):
         ran = show("--csv", "--head", "--width", 12, data=wide.encode())
         self.assertEqual((ran.lines[:2], len(ran.lines), ran.status), (["[ 1 ]", "c0  0"], 21, 0))
         self.assertEqual(show("--csv", "--head", "--width", 12, "--strict", data=wide.encode()).status, 4)
+        # A record takes a row for its number, and one for each of its 3 fields.
+        ran = show("--csv", "--records", data=b"a,b,c\n" * 507)
+        self.assertEqual((len(ran.lines), ran.lines[-1]), (2001, "7 more records; --rows chooses others"))
+        ran = show("--csv", "--records", data=b"a,b,c\n" * 2001)
+        self.assertEqual(ran.lines[-1], "1,500 more records and 1 more row; --rows and --columns choose others")
 
     def test_json(self):
         self.assertEqual(show(self.file("a.json", b'[{"a": 1}, {"b": "x y"}]')).lines, ["a b", "1", "  x y"])

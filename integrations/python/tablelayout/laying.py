@@ -50,29 +50,30 @@ def _lay_source(layouter: Layouter, source: Source, way: Way) -> "tuple[LowPage,
     return layouter.lay_source(source, way.width, way.options._replace(breaking=way.breaks[-1])), way.breaks[-1]
 
 
-def _lay_records(layouter: Layouter, columns: "Columns", way: Way) -> Shown:
+def _lay_records(layouter: Layouter, item: Item, columns: "Columns", way: Way) -> Shown:
     from .subset import file_of
     from .vertical import vertical_of
 
     vertical = vertical_of(columns)
     file = file_of(vertical.html)
     page, breaking = _lay_source(layouter, Source(file.data), way)
-    more = f"{vertical.more:,} more records" if vertical.more else ""
-    return Shown(file.shown(page.text), page.message, page.status, breaking, more)
+    hint = "; --rows chooses others" if item.source.is_rows and not item.more else ""
+    more = " and ".join(it for it in (f"{vertical.more:,} more records" if vertical.more else "", item.more) if it)
+    return Shown(file.shown(page.text), page.message, page.status, breaking, more + (hint if vertical.more else ""))
 
 
 def lay_item(layouter: Layouter, item: Item, way: Way) -> Shown:
     """The page of a table, or of its records. Raises what Layouter.lay does."""
     columns = item.columns() if way.records else None
     if columns:
-        return _with_more(_lay_records(layouter, columns, way), item.more)
+        return _lay_records(layouter, item, columns, way)
     try:
         page, breaking = _lay_source(layouter, item.source, way)
     except TooNarrow:
         columns = item.columns() if way.records is None else None
         if not columns:
             raise
-        return _with_more(_lay_records(layouter, columns, way), item.more)
+        return _lay_records(layouter, item, columns, way)
     blank = "&nbsp;" if "--html" in way.options.more else " "
     text = page.text.replace(item.blank, blank) if item.blank else page.text
     if way.is_bold:
@@ -80,7 +81,3 @@ def lay_item(layouter: Layouter, item: Item, way: Way) -> Shown:
 
         text = bolded(text, head_height(layouter, page, way.options._replace(breaking=breaking)))
     return Shown(text, page.message, page.status, breaking, item.more)
-
-
-def _with_more(shown: Shown, more: str) -> Shown:
-    return shown._replace(more=" and ".join(it for it in (shown.more, more) if it))
