@@ -1,5 +1,6 @@
 #!/usr/bin/env bash
-# Runs the lines of docs/PAGERS.md whose programs are there. If all is so this prints nothing, but for what is skipped.
+# Runs the lines of docs/PAGERS.md whose programs are there, but for mutt's, which tests/terminals.sh runs. If all is so this
+# prints nothing, but for what is skipped.
 set -uo pipefail
 top=$(dirname "$(dirname "$(readlink -f "${BASH_SOURCE[0]}")")")
 # shellcheck source=tests/common.bash
@@ -23,6 +24,12 @@ TABLELAYOUT_OPTIONS='--style frame' tablelayout show stock.csv | head -n 1 | exp
 if has sqlite3; then
     sqlite3 stock.db -cmd '.mode csv' '.import stock.csv stock'
     sqlite3 -csv -header stock.db 'select * from stock' | tablelayout show --csv --head | expect_text "$wanted" "of sqlite3"
+fi
+if has duckdb; then
+    duckdb -csv -c "select * from 'stock.csv'" | tablelayout show --csv --head | expect_text "$wanted" "of duckdb"
+fi
+if has csvcut; then
+    csvcut -c 2,1 stock.csv | tablelayout show --csv --head | expect_text $'left item    \n3    lamp oil\n12   rope    ' "of csvkit"
 fi
 if has jq; then
     jq -n '{items: [{item: "lamp oil", left: 3}, {item: "rope", left: 12}]}' >stock.json
