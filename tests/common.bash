@@ -10,6 +10,7 @@ if ! is_built; then
     echo "$0: the program is missing or older than its sources; rt ci, or a command of ./tablelayout, builds it" >&2
     exit 1
 fi
+unset TABLELAYOUT_OPTIONS TABLELAYOUT_PYTHON
 room=$(mktemp -d)
 trap 'rm -rf "$room"' EXIT
 # A part of a pipe cannot set a variable, so a file says that something differs.

@@ -93,4 +93,5 @@ def main(documents):
 
 if __name__ == "__main__":
     os.environ["LC_ALL"] = "C"
+    os.environ["TABLELAYOUT_OPTIONS"] = ""
     sys.exit(main([Path(it).resolve() for it in sys.argv[1:]] or [TOP / "README.md", *sorted((TOP / "docs").glob("*.md"))]))

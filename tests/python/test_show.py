@@ -329,11 +329,20 @@ class Viewers(unittest.TestCase):
     @common.needs_parser
     def test_lessopen(self):
         self.assertEqual(self.run_on("lessopen", "a.csv", SHIPS).lines, ["name  depth note", "Leith 9     deep", "Ayr   4"])
-        self.assertEqual(self.run_on("lessopen", "a.html", PAGE).lines[-1], "one [two]")
+        # Without pandoc the tables alone.
+        (self.room / "a.html").write_bytes(PAGE)
+        self.assertEqual(Run("lessopen", self.room / "a.html", PATH="/no/such/folder").lines, ["Ports", "name  depth", "Leith 9", "", "one [two]"])
+        self.assertEqual(Run("lessopen", self.room / "a.html", TABLELAYOUT="/no/such/program").text, "")
         for name, data in (("a.txt", SHIPS), ("b.html", b"<p>text"), ("c.json", b"{}"), ("d", PAGE)):
             ran = self.run_on("lessopen", name, data)
             self.assertEqual((ran.text, ran.said, ran.status), ("", "", 0))
         self.assertEqual(Run("lessopen", "/no/such/file.csv").text, "")
+
+    @common.needs_parser
+    @common.needs_pandoc
+    def test_lessopen_of_a_document(self):
+        lines = [it for it in self.run_on("lessopen", "a.html", PAGE.replace(b"<img alt=two>", b"two")).lines if it]
+        self.assertEqual(lines, ["before", "Ports", "name  depth", "Leith 9", "-   between", "one two"])
 
     def test_textconv(self):
         self.assertEqual(self.run_on("textconv", "a.csv", SHIPS).text, "name  depth note\nLeith 9     deep\nAyr   4\n")

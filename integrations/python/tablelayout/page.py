@@ -74,8 +74,11 @@ def _parser() -> Parser:
     return it
 
 
-def _text_of(name: str, form: Optional[str], width: int) -> bytes:
-    """The document as text. Raises OSError, LongFile, MissingPackage and PandocFault."""
+def text_of(name: str, form: Optional[str], width: int) -> bytes:
+    """The document of a file as text, at most so many columns wide where its tables can be.
+
+    ``form`` is what pandoc reads; None finds it. Raises OSError, LongFile, MissingPackage and PandocFault.
+    """
     data = read_input(name)
     form = form or _format_of(kind_by_name(name) or kind_by_content(data))
     if form == "html":
@@ -87,7 +90,7 @@ def main(arguments: Sequence[str]) -> int:
     """Runs ``page`` and returns its status: 0, 1 without pandoc, 5 where that cannot read the file, 6, 7 or 8."""
     given = _parser().parse_args(arguments)
     try:
-        text = _text_of(given.file, given.form, given.width or terminal.columns())
+        text = text_of(given.file, given.form, given.width or terminal.columns())
     except OSError as fault:
         terminal.write_message(["read fault", f"{given.file}: {fault.strerror}"])
         return STATUS_READ_FAULT

@@ -32,24 +32,39 @@ def _joined(pages: Sequence[str], mores: Sequence[str]) -> str:
     return "\n".join(page + (f"{more}\n" if more else "") for page, more in zip(pages, mores))
 
 
-def _shown_pages(name: str) -> str:
-    with open(name, "rb") as file:
-        data = file.read()
+def _shown_pages(name: str, data: bytes) -> bytes:
     way = Way(terminal.columns(), Options(_STYLE))
     with Layouter(in_process=True) as layouter:
         shown = [lay_item(layouter, item, way) for item in _items(name, data)]
-    return _joined([it.text for it in shown], [it.more for it in shown])
+    return _joined([it.text for it in shown], [it.more for it in shown]).encode("utf-8", "replace")
+
+
+def _shown_document(name: str, data: bytes) -> bytes:
+    """A page of HTML with what stands around its tables, where there is pandoc; else the tables alone."""
+    from .page import text_of
+
+    pages = _shown_pages(name, data)
+    try:
+        return text_of(name, None, terminal.columns()) if pages else pages
+    except (MissingPackage, PandocFault):
+        return pages
 
 
 def lessopen(arguments: Sequence[str]) -> int:
-    """Prints the tables of a file of HTML or CSV. Of all else, and where that fails, nothing, so that less shows the file."""
+    """Prints a file of HTML that has tables, or the table of a CSV file.
+
+    Of all else, and where that fails, it prints nothing, so that less shows the file.
+    """
     if len(arguments) != 1:
         return STATUS_USAGE
-    kind = kind_by_name(arguments[0])
+    name = arguments[0]
+    kind = kind_by_name(name)
     if kind is None or kind.name not in (CSV.name, HTML.name):
         return 0
     try:
-        terminal.write_page(_shown_pages(arguments[0]).encode("utf-8", "replace"))
+        with open(name, "rb") as file:
+            data = file.read()
+        terminal.write_page(_shown_document(name, data) if kind == HTML else _shown_pages(name, data))
     except _FAULTS:
         return 0
     return 0
