@@ -329,9 +329,9 @@ class Viewers(unittest.TestCase):
     @common.needs_parser
     def test_lessopen(self):
         self.assertEqual(self.run_on("lessopen", "a.csv", SHIPS).lines, ["name  depth note", "Leith 9     deep", "Ayr   4"])
-        # Without pandoc the tables alone.
         (self.room / "a.html").write_bytes(PAGE)
-        self.assertEqual(Run("lessopen", self.room / "a.html", PATH="/no/such/folder").lines, ["Ports", "name  depth", "Leith 9", "", "one [two]"])
+        ran = Run("lessopen", self.room / "a.html", PATH="/no/such/folder")
+        self.assertEqual(ran.lines, ["before", "", "Ports", "name  depth", "Leith 9", "", "- between", "", "one [two]"])
         self.assertEqual(Run("lessopen", self.room / "a.html", TABLELAYOUT="/no/such/program").text, "")
         for name, data in (("a.txt", SHIPS), ("b.html", b"<p>text"), ("c.json", b"{}"), ("d", PAGE)):
             ran = self.run_on("lessopen", name, data)
@@ -346,12 +346,19 @@ class Viewers(unittest.TestCase):
 
     def test_textconv(self):
         self.assertEqual(self.run_on("textconv", "a.csv", SHIPS).text, "name  depth note\nLeith 9     deep\nAyr   4\n")
-        for name, data in (("b.html", b"<p>text"), ("c.json", b"{"), ("d.csv", b""), ("e.txt", b"some text")):
+        # Not the first 2,000 rows alone, in which no later change would be seen.
+        for name, data in (("b.html", b"<p>text"), ("c.json", b"{"), ("d.csv", b""), ("e.txt", b"some text"), ("f.csv", b"a,b\n" * 2001),
+                           ("g.html", b"<!DOCTYPE html><table>" + b"<tr><td>a" * 2001)):
             ran = self.run_on("textconv", name, data)
             self.assertEqual((ran.text.encode(), ran.status, ran.said), (data, 0, ""))
         self.assertEqual(Run("textconv", "/no/such/file").status, 7)
         (self.room / "-f.csv").write_bytes(SHIPS)
         self.assertEqual(Run("textconv", "-f.csv", cwd=self.room).lines[0], "name  depth note")
+
+    @common.needs_parser
+    def test_textconv_leaves_no_text_out(self):
+        self.assertEqual(self.run_on("textconv", "h.html", PAGE).lines,
+                         ["before", "", "Ports", "name  depth", "Leith 9", "", "- between", "", "one [two]"])
 
     def test_textconv_of_widths(self):
         for widths, wanted in (

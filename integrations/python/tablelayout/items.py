@@ -1,7 +1,7 @@
 """What is shown of a file: its tables, each as a source for the program."""
 from __future__ import annotations
 
-from typing import TYPE_CHECKING, Callable, List, NamedTuple, Optional, Sequence
+from typing import TYPE_CHECKING, Callable, List, NamedTuple, Optional, Sequence, Union
 
 from .decoding import decode
 from .kinds import CSV, HTML, JSON_LINES, Kind
@@ -124,3 +124,16 @@ def read_items(data: bytes, kind: Kind, reading: Reading) -> Found:
 
         return _read_html(html_of(data, kind.detail or ""), Reading(encoding="utf-8"))
     return _read_json(data, kind, reading)
+
+
+def read_parts(data: bytes, kind: Kind) -> List[Union[str, Item]]:
+    """What a file shows, in order: the lines of each paragraph, and the tables between them. Raises what read_items does."""
+    if kind == HTML or kind.name == "pandoc":
+        from .web_items import parts_of_page
+
+        if kind == HTML:
+            return parts_of_page(data, None)
+        from .documents import html_of
+
+        return parts_of_page(html_of(data, kind.detail or ""), "utf-8")
+    return [*read_items(data, kind, Reading()).items]

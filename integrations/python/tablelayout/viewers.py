@@ -1,13 +1,13 @@
 """Tables for programs that show files: ``lessopen`` for less, ``textconv`` for git."""
 from __future__ import annotations
 
-from typing import List, Optional, Sequence
+from typing import Iterable, List, Optional, Sequence, Union
 
 from . import terminal
 from .arguments import MOST_WIDTH, STATUS_USAGE, Parser, widths_of_columns
 from .errors import Error, TooNarrow
 from .faults import BadChoice, BadFile, MissingPackage, PandocFault
-from .items import Item, Reading, read_items
+from .items import Item, read_parts
 from .kinds import CSV, HTML, kind_by_content, kind_by_name
 from .laying import BREAKS, Way, lay_item
 from .layouter import Layouter
@@ -22,32 +22,38 @@ _STYLE, _GAP = "compact", 1
 _DIFF_COLUMNS = 120
 
 
-def _items(name: str, data: bytes) -> List[Item]:
-    """The tables of a file. A spreadsheet has a head, as a rule, and looks the same without one."""
-    kind = kind_by_name(name) or kind_by_content(data)
-    return read_items(data, kind, Reading()).items
+def _parts(name: str, data: bytes) -> List[Union[str, Item]]:
+    """What the file shows; nothing of a file without a table. A head is not told, and looks as all else."""
+    parts = read_parts(data, kind_by_name(name) or kind_by_content(data))
+    return parts if any(isinstance(it, Item) for it in parts) else []
 
 
-def _joined(pages: Sequence[str], mores: Sequence[str]) -> str:
-    return "\n".join(page + (f"{more}\n" if more else "") for page, more in zip(pages, mores))
+def _joined(texts: Iterable[str]) -> bytes:
+    return "\n".join(texts).encode("utf-8", "replace")
 
 
-def _shown_pages(name: str, data: bytes) -> bytes:
+def _shown_parts(name: str, data: bytes) -> bytes:
     way = Way(terminal.columns(), Options(_STYLE))
+
+    def shown(part: Union[str, Item]) -> str:
+        if isinstance(part, str):
+            return part
+        page = lay_item(layouter, part, way)
+        return page.text + (f"{page.more}\n" if page.more else "")
+
     with Layouter(in_process=True) as layouter:
-        shown = [lay_item(layouter, item, way) for item in _items(name, data)]
-    return _joined([it.text for it in shown], [it.more for it in shown]).encode("utf-8", "replace")
+        return _joined(shown(it) for it in _parts(name, data))
 
 
 def _shown_document(name: str, data: bytes) -> bytes:
-    """A page of HTML with what stands around its tables, where there is pandoc; else the tables alone."""
+    """A page of HTML as pandoc writes it, where there is pandoc; else with each paragraph on a line, which less wraps."""
     from .page import text_of
 
-    pages = _shown_pages(name, data)
+    shown = _shown_parts(name, data)
     try:
-        return text_of(name, None, terminal.columns()) if pages else pages
+        return text_of(name, None, terminal.columns()) if shown else shown
     except (MissingPackage, PandocFault):
-        return pages
+        return shown
 
 
 def lessopen(arguments: Sequence[str]) -> int:
@@ -64,7 +70,7 @@ def lessopen(arguments: Sequence[str]) -> int:
     try:
         with open(name, "rb") as file:
             data = file.read()
-        terminal.write_page(_shown_document(name, data) if kind == HTML else _shown_pages(name, data))
+        terminal.write_page(_shown_document(name, data) if kind == HTML else _shown_parts(name, data))
     except _FAULTS:
         return 0
     return 0
@@ -100,22 +106,33 @@ def _diffable_page(layouter: Layouter, item: Item, widths: Sequence[int]) -> str
     return "".join(line.rstrip() + "\n" for line in text.splitlines())
 
 
+class _Cut(Exception):
+    """A part of a table would be left out."""
+
+
 def _diffable(name: str, data: bytes, widths: Sequence[int]) -> bytes:
+    """What the file shows, each paragraph on its lines. Raises _Cut where a change might not be seen."""
+
+    def diffable(part: Union[str, Item]) -> str:
+        if isinstance(part, str):
+            return part
+        if part.more:
+            raise _Cut
+        return _diffable_page(layouter, part, widths)
+
     with Layouter(in_process=True) as layouter:
-        items = _items(name, data)
-        text = _joined([_diffable_page(layouter, it, widths) for it in items], [it.more for it in items])
-    return text.encode("utf-8", "replace")
+        return _joined(diffable(it) for it in _parts(name, data))
 
 
 def _parser() -> Parser:
-    it = Parser("textconv", "Prints the tables of a file for a diff, or the file itself. The file is the last argument.")
+    it = Parser("textconv", "Prints a file with its tables for a diff, or the file itself. The file is the last argument.")
     it.add_argument("--widths", type=widths_of_columns, default=(), metavar="LIST",
                     help="the widths of the columns, as 12,30,8, for tables of so many columns where each word fits its column")
     return it
 
 
 def textconv(arguments: Sequence[str]) -> int:
-    """Prints the tables of a file for a diff; the file itself where that fails, or it has none.
+    """Prints a file with its tables for a diff; the file itself where that fails, or it has none, or one is beyond the limits.
 
     A table whose columns have the widths of ``--widths`` has them; any other is on its tidy page.
     """
@@ -133,7 +150,7 @@ def textconv(arguments: Sequence[str]) -> int:
         return STATUS_READ_FAULT
     try:
         text = _diffable(name, data, given.widths) or data
-    except _FAULTS:
+    except (_Cut, *_FAULTS):
         text = data
     try:
         terminal.write_page(text)

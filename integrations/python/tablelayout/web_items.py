@@ -1,7 +1,7 @@
 """The tables of a page of HTML."""
 from __future__ import annotations
 
-from typing import List, Optional, Sequence, Tuple
+from typing import List, Optional, Sequence, Tuple, Union
 from xml.etree.ElementTree import Element
 
 from .flow import blocks_of
@@ -62,3 +62,9 @@ def item_of(element: Element) -> Item:
 def items_of_page(data: bytes, encoding: Optional[str]) -> List[Item]:
     """The tables of a page that are inside no other. Raises MissingPackage."""
     return [item_of(it) for it in tables_of(parse(data, encoding))]
+
+
+def parts_of_page(data: bytes, encoding: Optional[str]) -> List[Union[str, Item]]:
+    """What a page shows, in order: the lines of each paragraph, and the tables between them. Raises MissingPackage."""
+    return [item_of(it) if isinstance(it, Element) else "".join(f"{line}\n" for line in it).replace(BLANK, " ")
+            for it in blocks_of(parse(data, encoding))]
