@@ -23,7 +23,7 @@ PAGE = b"""<!DOCTYPE html><title>x</title><p>before<table><caption>Ports</captio
 
 def environment_of_test():
     """The environment, but for what would change a page."""
-    return {name: value for name, value in os.environ.items() if name not in ("COLUMNS", "TABLELAYOUT", "NO_COLOR")}
+    return {name: value for name, value in os.environ.items() if name not in ("COLUMNS", "TABLELAYOUT", "TABLELAYOUT_PYTHON", "NO_COLOR")}
 
 
 def script(room, name, text):
@@ -442,9 +442,18 @@ class Front(unittest.TestCase):
         self.assertEqual(ran.stdout, b"aaa cc dd\nbbb ee   \n")
 
     def test_old_python(self):
-        code = "import sys, runpy; sys.version_info = (3, 7, 16); runpy.run_path(sys.argv[1])"
-        ran = subprocess.run([sys.executable, "-c", code, str(FRONT.parent / "start.py")], stderr=subprocess.PIPE, check=False)
-        self.assertEqual((ran.returncode, ran.stderr.count(b"\n"), ran.stderr[:43]), (1, 1, b"tablelayout: this is Python 3.7, and 3.8 or"))
+        code = "import sys, runpy; sys.version_info = (3, 7, 16); sys.argv[:1] = []; runpy.run_path(sys.argv[0])"
+        script(self.room, "python3", 'echo "other $*"\n')
+        start, environment = str(FRONT.parent / "start.py"), environment_of_test()
+        for more, told, said in (({"TABLELAYOUT_PYTHON": sys.executable}, "", "tablelayout: this is Python 3.7, and 3.8 or"),
+                                 ({"PATH": "/no/such/folder"}, "", "tablelayout: this is Python 3.7, and 3.8 or"),
+                                 # That of the path is taken.
+                                 ({"PATH": f"{self.room}:{os.environ['PATH']}"}, f"other -S {start} show\n", "")):
+            with self.subTest(more=more):
+                ran = subprocess.run([sys.executable, "-c", code, start, "show"], stdout=subprocess.PIPE, stderr=subprocess.PIPE, check=False,
+                                     env={**environment, **more})
+                self.assertEqual((ran.returncode, ran.stdout.decode()), (1 if said else 0, told))
+                self.assertEqual((ran.stderr.count(b"\n"), ran.stderr.decode()[:len(said)]), (1 if said else 0, said))
 
     def test_closed_descriptors(self):
         command = f'{FRONT} show --width 9'
