@@ -1,210 +1,180 @@
--- A check accepts what another run has laid out.
-use Rattle.std.proofs.Common.{◌≡◌, ◌≢◌, ◌⊎◌, inl, inr, ℕ, ◌≤◌, Bool, true, List, ◌++◌, ◌*◌, Option, Some, None}
-use Rattle.std.proofs.Common.{refl, sym, ap, subst, ◌∙◌}
-use Rattle.std.specs.Prelude.{is_some, option_to_list, bytes_eq}
-use Rattle.std.proofs.lemmas.Map.{update_same, update_other}
-use Rattle.std.proofs.lemmas.Slice.Eq.{bytes_eq-Decides}
+-- A check accepts the text of a certificate that a command has stored: one proof for each command, and `lay`.
+use Rattle.std.proofs.Common.{◌≡◌, ◌≢◌, ◌⊎◌, inl, inr, ℕ, ◌*◌, ◌≤◌, List, [], ◌∷◌, get_or, Option, Some, None}
+use Rattle.std.proofs.Common.{refl, sym, ap, subst, ◌∙◌, arith}
+use Rattle.std.specs.Prelude.{Bool, true, is_some}
+use Rattle.std.specs.List.{AllPairs}
+use Rattle.std.proofs.lemmas.Nat.{mul-le}
 use Rattle.tl_base.specs.declared.limits.TheConstants.{MAX_REACH}
-use Rattle.tl_base.specs.Desk.{Files, stored}
-use Rattle.tl_base.proofs.Options.{Some-same}
+use Rattle.tl_base.specs.Desk.{Files}
 use Rattle.tl_cert.specs.declared.certificate.Certificate.{Certificate}
 use Rattle.tl_cert.specs.declared.certificate.Claim.{Claim}
+use Rattle.tl_cert.specs.declared.certificate.Claim.TheVariants as claims
 use Rattle.tl_cert.specs.Faults.{IsTextOf}
 use Rattle.tl_cert.specs.Text.{cert_text}
-use Rattle.tl_command.specs.declared.command.Command.TheVariants.{Lay, Check}
-use Rattle.tl_command.specs.Ask.{Asked}
+use Rattle.tl_command.specs.declared.command.Command.TheVariants.{Check}
+use Rattle.tl_command.specs.Ask.{AreNames, Asked}
 use Rattle.tl_table.specs.declared.cell.Table.{Table}
+use Rattle.tl_table.specs.Sound.{nested_in_table}
 use Rattle.tl_form.specs.Valid.{IsValid}
-use Rattle.tl_program.specs.declared.answer.Answer.{Answer}
 use Rattle.tl_read.specs.declared.reading.Reading.TheVariants as readings
-use Rattle.tl_program.specs.declared.report.Report.{Report}
-use Rattle.tl_program.specs.declared.task.Task.{Task}
-use Rattle.tl_program.specs.Answers.{budget_in, reach, searches, certificate_file, IsReadBack, IsLaidAs}
-use Rattle.tl_program.specs.Answers.{lowest_laid, bounded_laid, narrow_laid}
-use Rattle.tl_program.specs.Asks.{IsAskOf, input_name, page_name, certificate_name, judged_name}
-use Rattle.tl_program.specs.Change.{Change, Holds, DoesNotFail, with_all}
-use Rattle.tl_program.specs.Checks.{IsValidIn}
-use Rattle.tl_program.specs.Complete.{SpellsTable, claim_status, AsksForSame, AcceptsLaid}
+use Rattle.tl_read.specs.Reading.{IsReading}
+use Rattle.tl_lay.specs.declared.answer.Answer.{Answer}
+use Rattle.tl_lay.specs.declared.answer.Answer.TheVariants as answers
+use Rattle.tl_lay.specs.declared.task.Task.{Task}
+use Rattle.tl_lay.specs.Answers.{Certifies, IsLaidAs, IsTextWanted, lowest_laid, bounded_laid, narrow_laid}
+use Rattle.tl_lay.specs.Budgets.{budget_in, reach, searches}
+use Rattle.tl_lay.specs.Checks.{IsValidIn}
+use Rattle.tl_program.specs.Accepts.{AsksForStored}
+use Rattle.tl_program.specs.Asks.{IsAskOf, input_name, judged_name}
+use Rattle.tl_program.specs.Change.{Change, DoesNotFail, Holds, with_all}
+use Rattle.tl_program.specs.Complete.{SpellsTable, claim_status, AcceptsLaid}
+use Rattle.tl_program.specs.Deliveries.{files_of, texts_of}
 use Rattle.tl_program.specs.Headline.{Ends}
 use Rattle.tl_program.specs.Messages.{status_number, status_of}
-use Rattle.tl_program.specs.Deliveries.{stored_as}
-use Rattle.tl_program.specs.Tasks.{task_of}
-use Rattle.tl_read.specs.Reading.{IsReading}
-use Rattle.tl_program.proofs.Asking.{names_asked, input_is_no_page, input_is_no_certificate}
+use Rattle.tl_program.specs.Reports.{report_of}
+use Rattle.tl_program.specs.Tasks.{task_of, task_on}
 use Rattle.tl_program.proofs.Checked.{accepted_so}
-use Rattle.tl_program.proofs.LaidRuns.{LaidRun, laid_run}
-use Rattle.tl_program.proofs.Storing.{after_join}
-use Rattle.tl_program.proofs.Ends.{other_bytes}
-
--- ---- what a run that laid a table out has stored
-
--- a certificate that is valid for the table and is stored, with the status of its claim
-pub record HasWritten (task : Task) (table : Table) (answer : Answer) (told : ℕ) : Type 0 where
-  pub certificate : Certificate
-  pub valid : IsValidIn task table certificate
-  pub file : answer.certificate ≡ certificate_file task.certified certificate
-  pub readable : IsReadBack task.certified certificate
-  pub claimed : told ≡ status_number (claim_status certificate.claim)
-
--- what was laid out, with the status of its report
-pub by_laid : (task : Task) (table : Table) (answer : Answer) (told : ℕ) {report : Report} → IsLaidAs task table answer report →
-    told ≡ status_number (status_of report) → HasWritten task table answer told
-by_laid task table answer told (lowest_laid is) same = record {
-  certificate = is.written.certificate;
-  valid = is.written.certifies.valid;
-  file = is.written.certificate_stored;
-  readable = is.written.readable;
-  claimed = same ∙ sym (ap (λ (claim : Claim). status_number (claim_status claim)) is.written.certifies.claimed);
-}
-by_laid task table answer told (bounded_laid is) same = record {
-  certificate = is.written.certificate;
-  valid = is.written.certifies.valid;
-  file = is.written.certificate_stored;
-  readable = is.written.readable;
-  claimed = same ∙ sym (ap (λ (claim : Claim). status_number (claim_status claim)) is.written.certifies.claimed);
-}
-by_laid task table answer told (narrow_laid is) same = record {
-  certificate = is.certificate;
-  valid = is.certifies.valid;
-  file = is.certificate_stored;
-  readable = is.readable;
-  claimed = same ∙ sym (ap (λ (claim : Claim). status_number (claim_status claim)) is.certifies.claimed);
-}
-
--- ---- files
-
--- the file that was stored last
-stored_last : (files : Option Files) (held : Files) (name bytes : List ℕ) → stored files name bytes ≡ Some held →
-    held name ≡ Some bytes
-stored_last None held name bytes is = absurd (none is) where
-  none : None ≡ Some held → ⊥
-  none e = absurd cc
-stored_last (Some files) held name bytes is =
-    subst (λ (f : Files). f name ≡ Some bytes) (Some-same is)
-    (update_same bytes_eq files name (Some bytes) name ((bytes_eq-Decides name name).1 refl))
-
--- a file under another name stays
-stored_other : (files : Option Files) (held : Files) (name bytes other : List ℕ) → other ≢ name →
-    stored files name bytes ≡ Some held →
-    (before : Files) × (files ≡ Some before) × (held other ≡ before other)
-stored_other None held name bytes other apart is = absurd (none is) where
-  none : None ≡ Some held → ⊥
-  none e = absurd cc
-stored_other (Some files) held name bytes other apart is = (
-  files,
-  refl,
-  subst (λ (f : Files). f other ≡ files other) (Some-same is)
-      (update_other bytes_eq files name (Some bytes) other (other_bytes name other apart)),
-)
-
--- the files that a layout stores: its certificate last, its page before, where there is one
-module _ (files : Option Files) (held : Files) (page certificate input : List ℕ) (drawn_page : Option (List ℕ)) (text : List ℕ)
-    (is : with_all files (option_to_list (stored_as (Some page) drawn_page) ++ option_to_list
-    (stored_as (Some certificate) (Some text))) ≡ Some held) where
-  last : stored (with_all files (option_to_list (stored_as (Some page) drawn_page))) certificate text ≡ Some held
-  last = sym (after_join files (option_to_list (stored_as (Some page) drawn_page))
-      (option_to_list (stored_as (Some certificate) (Some text)))) ∙ is
-
-  certificate_there : held certificate ≡ Some text
-  certificate_there = stored_last (with_all files (option_to_list (stored_as (Some page) drawn_page))) held certificate text last
-
-  input_stays : input ≢ page → input ≢ certificate → (bytes : List ℕ) → Holds files input bytes → held input ≡ Some bytes
-  input_stays first second bytes holds =
-      let middle = stored_other (with_all files (option_to_list (stored_as (Some page) drawn_page)))
-      held certificate text input second last in
-      middle.2 ∙ by_page drawn_page middle.0 middle.1 where
-        by_files : (before : Option Files) (middle : Files) → before ≡ Some middle → Holds before input bytes →
-            middle input ≡ Some bytes
-        by_files before middle same holds = subst (λ (f : Option Files). Holds f input bytes) same holds
-
-        by_page : (drawn_page : Option (List ℕ)) (middle : Files) →
-            with_all files (option_to_list (stored_as (Some page) drawn_page)) ≡ Some middle → middle input ≡ Some bytes
-        by_page None middle same = by_files files middle same holds
-        by_page (Some drawn) middle same =
-            let start = stored_other files middle page drawn input first same in
-            start.2 ∙ by_files files start.0 start.1 holds
+use Rattle.tl_program.proofs.LaidRuns.{laid_run}
+use Rattle.tl_program.proofs.NamedFiles.{HasOtherNames, StandsAt, first_apart, holds_through, named_otherwise, text_there}
 
 -- ---- the check
 
--- the searches for a table are as many on pages of one width
-same_searches : (laid checked : Asked) (table : Table) → laid.number ≡ checked.number →
-    searches table laid.number ≡ searches table checked.number
-same_searches laid checked table same = ap (searches table) same
+-- a certificate of the table that is valid on a page that is no wider than the one that is asked for
+pub record IsValidSomewhere (task : Task) (table : Table) (certificate : Certificate) : Type 0 where
+  pub page : ℕ
+  pub within : page ≤ task.width
+  pub valid : IsValid table task.style page (budget_in task table) certificate
 
-same_reach_asked : (laid checked : Asked) (table : Table) → laid.number ≡ checked.number →
-    budget_in (task_of laid) table ≡ budget_in (task_of checked) table →
-    reach (task_of laid) table ≡ reach (task_of checked) table
-same_reach_asked laid checked table width budget =
-    ap (λ (n : ℕ). n * budget_in (task_of laid) table) (same_searches laid checked table width)
-    ∙ ap (λ (b : ℕ). searches table checked.number * b) budget
+-- on a narrower page there are no more searches
+fewer_searches : (table : Table) (narrow wide : ℕ) → narrow ≤ wide → searches table narrow ≤ searches table wide
+fewer_searches table narrow wide le =
+    omega (arith, mul-le (nested_in_table table) narrow (nested_in_table table) wide (omega arith) le)
 
-same_valid_asked : (files : Option Files) (laid checked : Asked) (table : Table) (certificate : Certificate) →
-    AsksForSame files laid checked → budget_in (task_of laid) table ≡ budget_in (task_of checked) table →
-    IsValidIn (task_of laid) table certificate → IsValidIn (task_of checked) table certificate
-same_valid_asked files laid checked table certificate same budgets valid =
-    subst (λ (style : _). IsValid table style checked.number (budget_in (task_of checked) table) certificate) same.style
-    (subst (λ (width : ℕ). IsValid table (task_of laid).style width (budget_in (task_of checked) table) certificate) same.width
-    (subst (λ (budget : ℕ). IsValid table (task_of laid).style laid.number budget certificate) budgets valid))
+-- a run on pages of up to so many columns has read the table and stored texts, none of them under the first name, and a check is
+-- of one of them, which is that of such a certificate
+module _ (words : List (List ℕ)) (change : Change) (status : ℕ) (ends : Ends words change status) (most : Asked → ℕ)
+    (before : Option Files) (asked checked : Asked) (certificate : Certificate) (text : List ℕ) (files : Files)
+    (names : AreNames asked.names) (is_check : IsAskOf Check words checked)
+    (same : AsksForStored before (λ (a : Asked). task_on (most a) a) asked checked certificate) (content : List ℕ) (table : Table)
+    (holds : Holds before (input_name asked) content) (read : IsReading (task_of asked).source content (readings.Table table))
+    (near : reach (task_on (most asked) asked) table ≤ MAX_REACH) (rest : List (Option (List ℕ)))
+    (after : with_all before (files_of asked.names (None ∷ rest)) ≡ Some files)
+    (stands : StandsAt asked.names (None ∷ rest) (record { name = judged_name checked; bytes = text }))
+    (text_is : IsTextOf text certificate) (valid : IsValidSomewhere (task_on (most asked) asked) table certificate)
+    (found : change.files ≡ Some files) (quiet : DoesNotFail change) where
+  -- the budget is the same
+  budgets : budget_in (task_on (most asked) asked) table ≡ budget_in (task_of checked) table
+  budgets = same.budget content table holds read
 
-module _ (words : List (List ℕ)) (change : Change) (status : ℕ) (ends : Ends words change status) (earlier : List (List ℕ))
-    (before : Change)
-    (told : ℕ) (laid checked : Asked) (is_lay : IsAskOf Lay earlier laid) (is_check : IsAskOf Check words checked)
-    (same : AsksForSame before.files laid checked)
-    (run : LaidRun laid before told) (held : Files) (left : before.files_after ≡ Some held) (found : change.files ≡ Some held)
-    (quiet : DoesNotFail change) where
-  certified : (task_of laid).certified ≡ true
-  certified = ap is_some same.certificate
+  -- the page of the check is the one that the certificate names
+  page_is : valid.page ≡ checked.number
+  page_is = let wide = valid.valid.2.claim.wide in let of = valid.valid.1.wide in sym of ∙ sym wide ∙ same.width
 
-  budgets : budget_in (task_of laid) run.table ≡ budget_in (task_of checked) run.table
-  budgets = same.budget run.content run.table run.holds run.read
+  -- so the certificate is valid for what the check asks of the table
+  valid_in : IsValidIn (task_of checked) table certificate
+  valid_in =
+      subst (λ (budget : ℕ). IsValid table (task_of checked).style checked.number budget certificate) budgets
+      (subst (λ (width : ℕ). IsValid table (task_of checked).style width (budget_in (task_on (most asked) asked) table) certificate)
+      page_is (subst (λ style. IsValid table style valid.page (budget_in (task_on (most asked) asked) table) certificate) same.style
+      valid.valid))
 
-  by_written : HasWritten (task_of laid) run.table run.answer told → (status ≡ told) ⊎ (status ≡ 9)
-  by_written wrote =
-      elim (accepted_so words change status ends checked run.content (cert_text wrote.certificate) run.table wrote.certificate
-      is_check (held, found, ap held (sym same.input) ∙ input_there) (held, found, certificate_file_there)
-      quiet spells text_is
-      (same_valid_asked before.files laid checked run.table wrote.certificate same budgets wrote.valid)) [
-        | inl so ↦ inl (so ∙ sym wrote.claimed)
-        | inr nine ↦ inr nine
-      ] where
-        text : List ℕ
-        text = cert_text wrote.certificate
+  -- its text is there, and the file that was read as well
+  text_stored : files (judged_name checked) ≡ Some text
+  text_stored = subst (λ held. Holds held (judged_name checked) text) after
+      (text_there asked.names (None ∷ rest) before stands.place (judged_name checked) text names.apart stands.named stands.is)
 
-        file : run.answer.certificate ≡ Some text
-        file = wrote.file ∙ ap (λ (test : Bool). certificate_file test wrote.certificate) certified
+  input_stays : files (input_name asked) ≡ Some content
+  input_stays = subst (λ held. Holds held (input_name asked) content) after
+      (holds_through (files_of asked.names (None ∷ rest)) before (input_name asked) content (others asked.names names.apart) holds)
+    where
+      others : (all : List (List ℕ)) → AllPairs (λ one other. one ≢ other) all →
+          HasOtherNames (get_or all 0 []) (files_of all (None ∷ rest))
+      others [] apart = tt
+      others (name ∷ all) apart = named_otherwise name all rest (first_apart name all apart)
 
-        text_is : IsTextOf text wrote.certificate
-        text_is = subst (λ (test : Bool). IsReadBack test wrote.certificate) certified wrote.readable
+  -- which spells the table, within the reach
+  spells : SpellsTable (task_of checked) content table
+  spells = record {
+    read = subst (λ source. IsReading source content (readings.Table table)) same.source read;
+    within = let fewer = fewer_searches table checked.number (most asked)
+        (subst (λ (n : ℕ). n ≤ most asked) page_is valid.within) in
+        let reached = subst (λ (budget : ℕ). searches table (most asked) * budget ≤ MAX_REACH) budgets near in
+        let budget = budget_in (task_of checked) table in
+        omega (
+          arith,
+          reached,
+          mul-le (searches table checked.number) budget (searches table (most asked)) budget fewer (omega arith),
+        );
+  }
 
-        all : with_all before.files (option_to_list (stored_as (Some (page_name laid)) run.answer.page) ++ option_to_list
-            (stored_as (Some (judged_name checked)) (Some text))) ≡ Some held
-        all = sym (ap (λ (name : Option (List ℕ)). with_all before.files
-            (option_to_list (stored_as (Some (page_name laid)) run.answer.page) ++ option_to_list (stored_as name (Some text))))
-            same.certificate)
-            ∙ sym (ap (λ (o : Option (List ℕ)). with_all before.files
-            (option_to_list (stored_as (Some (page_name laid)) run.answer.page) ++ option_to_list
-            (stored_as (certificate_name laid) o))) file)
-            ∙ sym run.stores ∙ left
+  -- so the check has the status of the claim
+  pub accepted : (status ≡ status_number (claim_status certificate.claim)) ⊎ (status ≡ 9)
+  accepted = accepted_so words change status ends checked content text table certificate is_check
+      (files, found, ap files (sym same.input) ∙ input_stays) (files, found, text_stored) quiet spells text_is valid_in
 
-        certificate_file_there : held (judged_name checked) ≡ Some text
-        certificate_file_there = certificate_there before.files held (page_name laid) (judged_name checked) (input_name laid)
-            run.answer.page text all
+-- ---- `lay`
 
-        input_there : held (input_name laid) ≡ Some run.content
-        input_there = input_stays before.files held (page_name laid) (judged_name checked) (input_name laid) run.answer.page text
-            all
-            (input_is_no_page laid is_lay.is.names (names_asked Lay earlier laid is_lay).fewest)
-            (input_is_no_certificate laid (judged_name checked) is_lay.is.names same.certificate) run.content run.holds
+-- the texts of an answer of `lay`: none, that of a page, and that of a certificate which is valid, and has the status of the answer
+pub record HasWritten (task : Task) (table : Table) (answer : Answer) : Type 0 where
+  pub certificate : Certificate
+  pub valid : IsValidIn task table certificate
+  pub claimed : status_number (status_of (report_of answer)) ≡ status_number (claim_status certificate.claim)
+  pub page : Option (List ℕ)
+  pub text : Option (List ℕ)
+  pub are : texts_of answer ≡ None ∷ page ∷ text ∷ []
+  pub is_text : IsTextWanted task.certified (Some certificate) text
 
-        spells : SpellsTable (task_of checked) run.content run.table
-        spells = record {
-          read = subst (λ (source : _). IsReading source run.content (readings.Table run.table)) same.source run.read;
-          within = subst (λ (n : ℕ). n ≤ MAX_REACH) (same_reach_asked laid checked run.table same.width budgets) run.near;
-        }
+module _ (task : Task) (table : Table) where
+  -- by the claim
+  has_written : (answer : Answer) (claim : Claim) (page text : Option (List ℕ)) (certificate : Certificate) →
+      Certifies table task.style task.width (budget_in task table) claim certificate →
+      IsTextWanted task.certified (Some certificate) text → texts_of answer ≡ None ∷ page ∷ text ∷ [] →
+      status_number (status_of (report_of answer)) ≡ status_number (claim_status claim) → HasWritten task table answer
+  has_written answer claim page text certificate certifies is_text are so = record {
+    certificate = certificate;
+    valid = certifies.valid;
+    claimed = so ∙ sym (ap (λ (c : Claim). status_number (claim_status c)) certifies.claimed);
+    page = page;
+    text = text;
+    are = are;
+    is_text = is_text;
+  }
 
+  -- what was laid out
+  pub by_laid : {answer : Answer} → IsLaidAs task table answer → HasWritten task table answer
+  by_laid (lowest_laid {height} {taken} {page} {text} is) =
+      let by = is.written in
+      has_written (answers.Lowest height taken page text) (claims.Lowest height) (Some page) text by.certificate by.certifies
+      by.is_text refl refl
+  by_laid (bounded_laid {height} {lower} {taken} {page} {text} is) =
+      let by = is.written in
+      has_written (answers.Bounded height lower taken page text) (claims.Bounded height lower) (Some page) text by.certificate
+      by.certifies by.is_text refl refl
+  by_laid (narrow_laid {least} {text} is) = has_written (answers.Narrow least task.width text) (claims.Narrow least) None text
+      is.certificate is.certifies is.is_text refl refl
+
+-- a check of the certificate that `lay` has stored has the status of that run
 pub accepts_laid : (words : List (List ℕ)) (change : Change) (status : ℕ) → Ends words change status →
     AcceptsLaid words change status
 accepts_laid words change status ends = λ earlier before told laid checked is_lay is_check same ended out files quiet.
-    let went = laid_run earlier before told laid ended is_lay out in
-    by_written words change status ends earlier before told laid checked is_lay is_check same went files.0 files.1 files.2 quiet
-    (by_laid (task_of laid) went.table went.answer told went.laid went.told)
+    let run = laid_run earlier before told laid ended is_lay out in
+    let wrote = by_laid (task_of laid) run.table run.laid in
+    let certified : (task_of laid).certified ≡ true = ap is_some same.certificate in
+    let is = subst (λ (test : Bool). IsTextWanted test (Some wrote.certificate) wrote.text) certified wrote.is_text in
+    elim (accepted words change status ends (λ asked. asked.number) before.files laid checked wrote.certificate
+    (cert_text wrote.certificate) files.0 is_lay.is.names is_check (record {
+      width = wrote.valid.2.claim.wide ∙ wrote.valid.1.wide ∙ same.width;
+      input = same.input;
+      place = 2;
+      past_page = omega arith;
+      named = same.certificate;
+      style = same.style;
+      source = same.source;
+      budget = same.budget;
+    }) run.content run.table run.holds run.read run.near (wrote.page ∷ wrote.text ∷ [])
+    (sym (run.stores ∙ ap (λ texts. with_all before.files (files_of laid.names texts)) wrote.are) ∙ files.1)
+    (record { place = 2; named = same.certificate; is = ap Some is.0 }) is.1
+    (record { page = laid.number; within = omega arith; valid = wrote.valid }) files.2 quiet) [
+      | inl so ↦ inl (so ∙ sym (run.told ∙ wrote.claimed))
+      | inr nine ↦ inr nine
+    ]

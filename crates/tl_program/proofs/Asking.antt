@@ -16,7 +16,7 @@ use Rattle.tl_program.specs.Change.{Change}
 use Rattle.tl_program.specs.Headline.{ComesOf, IsCarriedOut}
 use Rattle.tl_program.specs.Deliveries.{Delivery}
 use Rattle.tl_program.specs.Tasks.{given_or, slim_task, task_of}
-use Rattle.tl_program.specs.inner.Steps.{IsTaskInRange}
+use Rattle.tl_lay.specs.Inputs.{IsTaskInRange}
 
 -- ---- limits
 

@@ -1,5 +1,5 @@
 -- How a run ends, from what was stored and printed; and that it is complete.
-use Rattle.std.proofs.Common.{◌≡◌, ◌≢◌, ◌⊎◌, inl, inr, ℕ, ◌+◌, ◌*◌, List, []}
+use Rattle.std.proofs.Common.{◌≡◌, ◌≢◌, ◌⊎◌, inl, inr, ℕ, List, []}
 use Rattle.std.proofs.Common.{Option, Some, refl, sym, ◌∙◌, ap, subst, arith}
 use Rattle.std.specs.Prelude.{Bool, true, false, ◌==◌, if◌then◌else◌, bytes_eq}
 use Rattle.std.proofs.lemmas.Bool.Decides.{eqb_tells}
@@ -7,13 +7,10 @@ use Rattle.std.proofs.lemmas.Bool.{false_from_ne_true}
 use Rattle.std.proofs.lemmas.Slice.Eq.{bytes_eq-Decides}
 use Rattle.tl_base.specs.Desk.{Files, Rose, SaysPrefix, longer}
 use Rattle.tl_base.proofs.Options.{Some-same}
-use Rattle.tl_command.specs.declared.command.Command.TheVariants.{Lay}
 use Rattle.tl_command.specs.declared.command.Command.{Command}
 use Rattle.tl_command.specs.Ask.{Asked}
 use Rattle.tl_table.specs.declared.cell.Table.{Table}
 use Rattle.tl_table.specs.Same.{AreSame}
-use Rattle.tl_table.proofs.SameTables.{same_nests}
-use Rattle.tl_program.specs.declared.answer.Answer.{Answer}
 use Rattle.tl_read.specs.declared.reading.Reading.TheVariants as readings
 use Rattle.tl_read.specs.declared.refusal.Refusal.{Refusal}
 use Rattle.tl_read.specs.declared.refusal.Refusal.TheVariants as refusals
@@ -21,20 +18,21 @@ use Rattle.tl_program.specs.declared.report.Report.{Report}
 use Rattle.tl_program.specs.declared.report.Report.TheVariants as reports
 use Rattle.tl_program.specs.declared.status.Status.{Status}
 use Rattle.tl_program.specs.declared.status.Status.TheVariants as statuses
-use Rattle.tl_program.specs.declared.task.Task.{Task}
-use Rattle.tl_program.specs.Answers.{budget_in, budget_of, reach, IsLaidAs, lowest_laid, bounded_laid, narrow_laid}
+use Rattle.tl_lay.specs.Budgets.{reach}
 use Rattle.tl_program.specs.Asks.{IsAskOf, input_name}
 use Rattle.tl_program.specs.Change.{Change, Holds, StoresSome, FailsToStore, DoesNotFail, with_all}
-use Rattle.tl_program.specs.Complete.{IsComplete, IsRefusedBy, IsRefusedSo, ShowsFile, SpellsTable}
+use Rattle.tl_program.specs.Complete.{ShowsFile, SpellsTable}
 use Rattle.tl_program.specs.Headline.{ComesOf, IsCarriedOut, Ends}
-use Rattle.tl_program.specs.Inputs.{IsOfBytes}
+use Rattle.tl_lay.specs.Inputs.{IsOfBytes}
 use Rattle.tl_program.specs.Messages.{status_number, status_of, message_of}
-use Rattle.tl_program.specs.Deliveries.{Delivery, reported, ComesOfInput, IsAnswered}
-use Rattle.tl_program.specs.Tasks.{task_of, task_on}
+use Rattle.tl_program.specs.Deliveries.{ComesOfInput, Delivery, reported}
+use Rattle.tl_program.specs.Tasks.{task_on}
 use Rattle.tl_read.specs.Reading.{IsReading}
 use Rattle.tl_program.specs.inner.Printing.{IsPrinted, IsDelivered}
+use Rattle.tl_program.specs.inner.Steps.{EndsUnread}
+use Rattle.tl_lay.proofs.SameBudgets.{same_reach}
 use Rattle.tl_program.proofs.Asking.{carried_as}
-use Rattle.tl_program.proofs.Inputs.{own_of, refusal_of}
+use Rattle.tl_lay.proofs.Inputs.{own_of, refusal_of}
 use Rattle.tl_program.proofs.Storing.{some_all}
 
 -- ---- how the program ends
@@ -142,6 +140,17 @@ module _ (words : List (List ℕ)) (change : Change) where
         delivered (inr (inl is)) = inr (inl (is.0, is.1, inr (stay, is.2)))
         delivered (inr (inr is)) = inr (inr (is.0, is.1, some_all change.files change.files_after [] stay))
 
+-- a file that could not be read ends the program, whatever was asked for of it
+pub unread_ends : (change : Change) (status : Status) → Rose change.load_faults change.load_faults_after →
+    IsDelivered status change (reported reports.ReadFault) → EndsUnread change status
+unread_ends change status rose delivered words comes = delivered_ends words change status (reported reports.ReadFault)
+    (comes (reported reports.ReadFault) (record { rose = rose; so = refl })) delivered
+
+-- and so does want of memory, before anything is stored
+pub memory_unread : (change : Change) → change.files_after ≡ change.files → change.said_after ≡ change.said →
+    EndsUnread change statuses.Memory
+memory_unread change files said words comes = ends_memory words change said (inl files)
+
 -- ---- completeness
 
 -- two names that differ are told apart
@@ -171,14 +180,6 @@ went words change status command asked ends is quiet = elim (eqb_tells status 9)
   ]
 ]
 
--- tables that are the same have the same reach, and the same budget
-pub same_reach : (task : Task) (one other : Table) → AreSame one other → reach task one ≡ reach task other
-same_reach task one other same =
-    ap (λ (n : ℕ). (1 + n * task.width) * budget_of task.budget (1 + n * task.width)) (same_nests one other same)
-
-pub same_budget : (task : Task) (one other : Table) → AreSame one other → budget_in task one ≡ budget_in task other
-same_budget task one other same = ap (λ (n : ℕ). budget_of task.budget (1 + n * task.width)) (same_nests one other same)
-
 -- what comes of a file that spells a table within the reach, or that is refused
 module _ (width : ℕ) (asked : Asked) (Own : Table → Delivery → Type 0) (change : Change) (delivery : Delivery)
     (comes : ComesOfInput asked (reach (task_on width asked)) Own change delivery) (bytes : List ℕ)
@@ -203,37 +204,3 @@ module _ (width : ℕ) (asked : Asked) (Own : Table → Delivery → Type 0) (ch
   pub refused_input : (refusal : Refusal) → IsReading (task_on width asked).source bytes (readings.Refused refusal) → passed refusal
   refused_input refusal =
       refusal_of (task_on width asked).source (reach (task_on width asked)) passed (λ t. Own t delivery) bytes refusal of_bytes
-
--- a table that is laid out gives 0, 3 or 4
-pub laid_status : (task : Task) (table : Table) (answer : Answer) {report : Report} → IsLaidAs task table answer report →
-    (status : ℕ) →
-    status ≡ status_number (status_of report) → (status ≡ 0) ⊎ ((status ≡ 3) ⊎ ((status ≡ 4) ⊎ (status ≡ 9)))
-laid_status task table answer (lowest_laid is) status same = inl same
-laid_status task table answer (bounded_laid is) status same = inr (inl same)
-laid_status task table answer (narrow_laid is) status same = inr (inr (inl same))
-
-pub complete : (words : List (List ℕ)) (change : Change) (status : ℕ) → Ends words change status → IsComplete words change status
-complete words change status ends = λ asked bytes table is shown quiet spells.
-    elim (went words change status Lay asked ends is quiet) [
-      | inl so ↦
-          let own = own_input asked.number asked (IsAnswered asked) change so.0 so.1 bytes shown quiet table spells in
-          laid_status (task_of asked) own.0 own.2.answer own.2.laid status
-          (so.2 ∙ ap (λ (d : Delivery). status_number (status_of d.report)) own.2.so)
-      | inr nine ↦ inr (inr (inr nine))
-    ]
-
--- a file that is refused gives the status of its refusal, whatever the command makes of tables
-pub refused_by : (command : Command) (most : Asked → ℕ) (Own : Asked → Table → Delivery → Type 0) →
-    ((asked : Asked) (change : Change) (delivery : Delivery) → IsCarriedOut command asked change delivery →
-    ComesOfInput asked (reach (task_on (most asked) asked)) (Own asked) change delivery) →
-    (words : List (List ℕ)) (change : Change) (status : ℕ) → Ends words change status → IsRefusedBy command words change status
-refused_by command most Own carried words change status ends = λ asked bytes refusal is shown quiet read.
-    elim (went words change status command asked ends is quiet) [
-      | inl so ↦ inl (so.2 ∙ ap (λ (d : Delivery). status_number (status_of d.report))
-          (refused_input (most asked) asked (Own asked) change so.0 (carried asked change so.0 so.1) bytes shown quiet refusal read))
-      | inr nine ↦ inr nine
-    ]
-
-pub refused_so : (words : List (List ℕ)) (change : Change) (status : ℕ) → Ends words change status →
-    IsRefusedSo words change status
-refused_so = refused_by Lay (λ asked. asked.number) IsAnswered (λ asked change delivery comes. comes)

@@ -1,43 +1,24 @@
 -- The definitions on small cases.
-use Rattle.std.proofs.Common.{◌≡◌, ◌∙◌, ℕ, List, [], ◌∷◌, ◌++◌, length, codes, decimal, Some, None, false, true, refl, ap, arith}
-use Rattle.std.proofs.lemmas.List.{length-append}
-use Rattle.std.proofs.lemmas.List.Concat.{flat_map-cons}
+use Rattle.std.proofs.Common.{◌≡◌, ℕ, List, [], ◌∷◌, ◌++◌, codes, decimal, Some, None, false, true, refl}
 use Rattle.tl_base.specs.declared.breaking.Breaking.TheVariants.{Words}
-use Rattle.tl_base.specs.declared.style.Style.TheVariants as styles
-use Rattle.tl_table.specs.declared.cell.Table.{Table}
-use Rattle.tl_table.specs.declared.layout.Layout.{Layout}
-use Rattle.tl_page.specs.Pages.{page_bytes}
-use Rattle.tl_page.specs.Standing.{HoldsAllText}
 use Rattle.tl_read.specs.declared.refusal.RecordFault.TheVariants as records
 use Rattle.tl_read.specs.declared.source.Source.TheVariants.{Csv, Html}
 use Rattle.tl_read.specs.declared.refusal.Fault.TheVariants as faults
 use Rattle.tl_read.specs.declared.refusal.Refusal.TheVariants as refusals
-use Rattle.tl_program.specs.declared.rejection.Rejection.TheVariants as rejections
+use Rattle.tl_lay.specs.declared.rejection.Rejection.TheVariants as rejections
 use Rattle.tl_program.specs.declared.report.Report.TheVariants as reports
+use Rattle.tl_lay.specs.declared.answer.Answer.{Answer}
+use Rattle.tl_lay.specs.declared.answer.Answer.TheVariants as answers
 use Rattle.tl_command.specs.declared.command.Command.{Command}
-use Rattle.tl_command.specs.declared.command.Command.TheVariants.{Lay, Check}
+use Rattle.tl_command.specs.declared.command.Command.TheVariants.{Lay, Narrow, Check}
 use Rattle.tl_command.specs.declared.options.Options.{Options}
 use Rattle.tl_command.specs.Ask.{Asked}
-use Rattle.tl_program.specs.Answers.{budget_of, IsWholePage}
 use Rattle.tl_program.specs.Asks.{input_name, page_name, certificate_name, judged_name}
 use Rattle.tl_program.specs.Change.{Stored}
 use Rattle.tl_program.specs.Messages.{status_number, status_of, message_of}
-use Rattle.tl_program.specs.Deliveries.{stored_as, delivery_of}
+use Rattle.tl_program.specs.Deliveries.{delivery_of}
+use Rattle.tl_program.specs.Reports.{report_of}
 use Rattle.tl_program.specs.Tasks.{task_of}
-
--- an outer table alone is searched once; with one nested table on a page of 80 columns there are 81 searches; with 100 of
--- them 8,001
-alone : budget_of None 1 ≡ 5000
-alone = refl
-
-one_nested : budget_of None 81 ≡ 5000
-one_nested = refl
-
-many_nested : budget_of None 8001 ≡ 249
-many_nested = refl
-
-given : budget_of (Some 100000) 81 ≡ 100000
-given = refl
 
 -- statuses
 bounded : status_number (status_of (reports.Bounded 3 2 7)) ≡ 3
@@ -53,10 +34,6 @@ usage = refl
 -- and where a certificate has too many bytes, which no test has
 too_long : message_of (reports.Rejected rejections.TooLong) ≡ codes "rejected: too long" ++ 10 ∷ []
 too_long = refl
-
--- a certificate without a name is not stored
-unnamed : stored_as None (Some (1 ∷ [])) ≡ None
-unnamed = refl
 
 -- no option
 abbrev no_options : Options
@@ -105,33 +82,27 @@ not_certified : (task_of (with_names Check (codes "t" ∷ codes "c" ∷ []))).ce
 not_certified = refl
 
 -- of an answer with both, the page is stored before the certificate
-stored_in_order : (delivery_of lay_three (record {
-  report = reports.Lowest 1 1;
-  page = Some (1 ∷ []);
-  certificate =
-      Some (2 ∷ []);
-})).stores
+stored_in_order : (delivery_of lay_three (answers.Lowest 1 1 (1 ∷ []) (Some (2 ∷ [])))).stores
     ≡ (let page : Stored = record { name = codes "p"; bytes = 1 ∷ [] } in page)
     ∷ (let text : Stored = record { name = codes "c"; bytes = 2 ∷ [] } in text) ∷ []
 stored_in_order = refl
 
--- an empty file is no page of a layout of one line
-no_line : (table : Table) (layout : Layout) → IsWholePage false styles.Plain Words table 1 layout [] → ⊥
-no_line table layout whole = by_lines whole.0 whole.3 whole.4 where
-  by_lines : (lines : List (List ℕ)) → length lines ≡ 1 → [] ≡ page_bytes lines → ⊥
-  by_lines [] high same = omega (arith, high)
-  by_lines (line ∷ lines) high same = omega (
-    arith,
-    ap length (same ∙ flat_map-cons (λ (l : List ℕ). l ++ 10 ∷ []) line lines),
-    length-append (line ++ 10 ∷ []) (page_bytes lines),
-    length-append line (10 ∷ []),
-  )
+-- a text without a name is not stored
+unnamed : (delivery_of (with_names Lay (codes "t" ∷ codes "p" ∷ [])) (answers.Narrow 9 7 (Some (2 ∷ [])))).stores ≡ []
+unnamed = refl
 
--- the text of a page is that of the table, whole
-holds_text : (table : Table) (height : ℕ) (layout : Layout) (page : List ℕ) →
-    IsWholePage false styles.Frame Words table height layout page →
-    (lines : List (List ℕ)) × HoldsAllText styles.Frame table layout lines × (page ≡ page_bytes lines)
-holds_text table height layout page whole = (whole.0, whole.2, whole.4)
+-- of the narrowest page nothing is stored as LESS where it is one column wide
+abbrev one_column : Answer
+one_column = answers.Slimmest 1 3 (record { page = Some (1 ∷ []); kept = Some (2 ∷ []); less = None; spent = None })
+
+no_less : (delivery_of (with_names Narrow (codes "t" ∷ codes "p" ∷ codes "c" ∷ codes "l" ∷ [])) one_column).stores
+    ≡ (let page : Stored = record { name = codes "p"; bytes = 1 ∷ [] } in page)
+    ∷ (let text : Stored = record { name = codes "c"; bytes = 2 ∷ [] } in text) ∷ []
+no_less = refl
+
+-- and its two numbers are printed
+slimmest_printed : message_of (report_of one_column) ≡ codes "slimmest width " ++ (decimal 1 ++ (codes " height " ++ (decimal 3 ++ 10 ∷ [])))
+slimmest_printed = refl
 
 -- `lay 7 t p c --csv --head --least 5` reads a CSV file, with the least width 5 of the first column
 abbrev lay_csv : Asked

@@ -17,7 +17,7 @@ use Rattle.tl_program.specs.Asks.{IsAskOf, input_name}
 use Rattle.tl_program.specs.Change.{Change, Holds, with_all}
 use Rattle.tl_program.specs.Deliveries.{Delivery, reported, ComesOfInput}
 use Rattle.tl_program.specs.Headline.{IsCarriedOut, Ends}
-use Rattle.tl_program.specs.Inputs.{IsOfReading}
+use Rattle.tl_lay.specs.Inputs.{IsOfReading}
 use Rattle.tl_program.specs.Messages.{status_number, status_of, message_of}
 use Rattle.tl_program.specs.Tasks.{task_of}
 use Rattle.tl_program.proofs.Asking.{carried_as}

@@ -9,14 +9,16 @@ use Rattle.tl_table.specs.Sound.{IsSound}
 use Rattle.tl_read.specs.declared.reading.Reading.{Reading}
 use Rattle.tl_read.specs.declared.reading.Reading.TheVariants as readings
 use Rattle.tl_read.specs.Reading.{IsReading, AreSameReadings, IsSpellableReading}
-use Rattle.tl_program.specs.declared.answer.Answer.{Answer}
-use Rattle.tl_program.specs.Answers.{reach, IsLaidAs}
+use Rattle.tl_lay.specs.declared.answer.Answer.{Answer}
+use Rattle.tl_lay.specs.Answers.{IsLaidAs}
+use Rattle.tl_lay.specs.Budgets.{reach}
 use Rattle.tl_program.specs.Asks.{IsAskOf, input_name}
 use Rattle.tl_program.specs.Change.{Change, Holds, with_all}
 use Rattle.tl_program.specs.Complete.{IsLaidStatus}
 use Rattle.tl_program.specs.Deliveries.{Delivery, delivery_of, IsAnswered}
 use Rattle.tl_program.specs.Headline.{Ends}
 use Rattle.tl_program.specs.Messages.{status_number, status_of, message_of}
+use Rattle.tl_program.specs.Reports.{report_of}
 use Rattle.tl_program.specs.Tasks.{task_of}
 use Rattle.tl_program.proofs.InputRuns.{IsOwnStatus, delivery_status, went_run}
 
@@ -44,15 +46,15 @@ pub record LaidRun (asked : Asked) (change : Change) (status : ℕ) : Type 0 whe
   pub spellable : IsSpellableReading (task_of asked).source (readings.Table table)
   pub near : reach (task_of asked) table ≤ MAX_REACH
   pub answer : Answer
-  pub laid : IsLaidAs (task_of asked) table answer answer.report
-  pub told : status ≡ status_number (status_of answer.report)
+  pub laid : IsLaidAs (task_of asked) table answer
+  pub told : status ≡ status_number (status_of (report_of answer))
   pub stores : change.files_after ≡ with_all change.files (delivery_of asked answer).stores
-  pub prints : change.said_after ≡ longer change.said (message_of answer.report)
+  pub prints : change.said_after ≡ longer change.said (message_of (report_of answer))
 
 pub laid_run : (words : List (List ℕ)) (change : Change) (status : ℕ) (asked : Asked) → Ends words change status →
     IsAskOf Lay words asked → IsLaidStatus status → LaidRun asked change status
 laid_run words change status asked ends is out =
-    let went = went_run words change status Lay asked (reach (task_of asked)) (IsAnswered asked) ends is (own_laid status out)
+    let went = went_run words change status Lay asked (reach (task_of asked)) (IsAnswered (IsLaidAs (task_of asked)) asked) ends is (own_laid status out)
     (λ same. laid_apart status 8 out same (λ e. omega (arith, e)) (λ e. omega (arith, e)) (λ e. omega (arith, e)))
     (λ same. laid_apart status 9 out same (λ e. omega (arith, e)) (λ e. omega (arith, e)) (λ e. omega (arith, e)))
     (λ delivery carried. carried) in
@@ -67,7 +69,7 @@ laid_run words change status asked ends is out =
       spellable = run.spellable;
       near = run.near;
       answer = run.own.answer;
-      laid = run.own.laid;
+      laid = run.own.is;
       told = went.told ∙ ap delivery_status run.own.so;
       stores = went.stores ∙ ap (λ (d : Delivery). with_all change.files d.stores) run.own.so;
       prints = went.prints ∙ ap (λ (d : Delivery). longer change.said (message_of d.report)) run.own.so;

@@ -1,19 +1,38 @@
 -- What storing texts under names leaves: each text under its name, and any other file as it was.
 use Rattle.std.proofs.Common.{◌≡◌, ◌≢◌, inl, inr, ℕ, zero, suc, ◌<◌, List, [], ◌∷◌, length, get_or, Option, Some, None}
 use Rattle.std.proofs.Common.{◌⊎◌, ◌≤◌, ◌++◌, ◌∙◌, Bool, true, false, Contains, map, refl, sym, ap, subst, take, append-nil, arith}
-use Rattle.std.specs.Prelude.{bytes_eq, option_to_list}
+use Rattle.std.specs.Prelude.{bytes_eq}
 use Rattle.std.proofs.lemmas.List.{map-append}
-use Rattle.std.proofs.lemmas.Map.{update_other}
-use Rattle.std.proofs.lemmas.Option.{get_or_from_slice_get, same_Some, slice_get_within}
+use Rattle.std.proofs.lemmas.Map.{update_other, update_same}
+use Rattle.std.proofs.lemmas.Option.{get_or_from_slice_get, same_Some, slice_get-get_or, slice_get_within}
 use Rattle.std.proofs.lemmas.Slice.Eq.{bytes_eq-Decides}
 use Rattle.std.specs.List.{AllByRecursion, AllPairs, slice_get}
 use Rattle.tl_base.proofs.Members.{AllPairs-tail, Contains-cases, Contains-none}
 use Rattle.tl_base.specs.Desk.{Files, put, stored}
+use Rattle.tl_command.specs.Ask.{AreNames, Asked}
+use Rattle.tl_lay.specs.declared.answer.Answer.{Answer}
 use Rattle.tl_program.specs.declared.output.File.{File}
 use Rattle.tl_program.specs.Change.{Holds, Stored, as_stored, with_all}
-use Rattle.tl_program.specs.Deliveries.{stored_as}
-use Rattle.tl_program.specs.Slimmed.{files_of}
-use Rattle.tl_program.proofs.Lowest.{holds_last, holds_still}
+use Rattle.tl_program.specs.Asks.{page_name}
+use Rattle.tl_program.specs.Deliveries.{delivery_of, files_of, texts_of}
+use Rattle.tl_program.proofs.Ends.{other_bytes}
+
+-- ---- one file
+
+-- a file that is stored is there
+pub holds_last : (files : Option Files) (name bytes : List ℕ) → Holds (stored files name bytes) name bytes
+holds_last None name bytes = tt
+holds_last (Some files) name bytes =
+    update_same bytes_eq files name (Some bytes) name ((bytes_eq-Decides name name).1 refl)
+
+-- and stays there when another is stored
+pub holds_still : (files : Option Files) (name bytes other content : List ℕ) → other ≢ name → Holds files other content →
+    Holds (stored files name bytes) other content
+holds_still None name bytes other content apart holds = tt
+holds_still (Some files) name bytes other content apart holds =
+    update_other bytes_eq files name (Some bytes) other (other_bytes name other apart) ∙ holds
+
+-- ---- files
 
 -- none of the files that are stored has this name
 abbrev pub HasOtherNames : List ℕ → List Stored → Type 0
@@ -131,29 +150,14 @@ stands_at (name ∷ names) (Some text ∷ texts) one there =
           record { place = suc rest.place; named = rest.named; is = rest.is }
     ]
 
--- ---- a page and a certificate
+-- ---- a page
 
--- where the texts end there are no more files
-none_left : (names : List (List ℕ)) → files_of names [] ≡ []
-none_left [] = refl
-none_left (name ∷ names) = refl
-
--- the files of a layout are those of two texts, under the second name and the third
-pub laid_files : (names : List (List ℕ)) (page text : Option (List ℕ)) → 2 ≤ length names →
-    option_to_list (stored_as (Some (get_or names 1 [])) page) ++ option_to_list (stored_as (slice_get names 2) text)
-    ≡ files_of names (None ∷ page ∷ text ∷ [])
-laid_files [] page text two = absurd (omega (arith, two))
-laid_files (input ∷ []) page text two = absurd (omega (arith, two))
-laid_files (input ∷ name ∷ []) None text two = refl
-laid_files (input ∷ name ∷ []) (Some page) text two = refl
-laid_files (input ∷ name ∷ other ∷ names) None None two = sym (none_left names)
-laid_files (input ∷ name ∷ other ∷ names) None (Some text) two =
-    ap (λ (rest : List Stored). record { name = other; bytes = text } ∷ rest) (sym (none_left names))
-laid_files (input ∷ name ∷ other ∷ names) (Some page) None two =
-    ap (λ (rest : List Stored). record { name = name; bytes = page } ∷ rest) (sym (none_left names))
-laid_files (input ∷ name ∷ other ∷ names) (Some page) (Some text) two =
-    ap (λ (rest : List Stored). record { name = name; bytes = page } ∷ record { name = other; bytes = text } ∷ rest)
-    (sym (none_left names))
+-- the page of an answer is stored under the second name
+pub page_there : (files : Option Files) (asked : Asked) (answer : Answer) (page : List ℕ) → AreNames asked.names →
+    2 ≤ length asked.names → slice_get (texts_of answer) 1 ≡ Some (Some page) →
+    Holds (with_all files (delivery_of asked answer).stores) (page_name asked) page
+page_there files asked answer page are two is = text_there asked.names (texts_of answer) files 1 (page_name asked) page are.apart
+    (slice_get-get_or asked.names 1 [] (omega (arith, two))) is
 
 -- ---- one file after the other
 

@@ -1,11 +1,9 @@
 -- A run reports that a file could not be read only where a load of a file that was asked for failed.
-use Rattle.std.proofs.Common.{◌≡◌, ◌⊎◌, inl, inr, ℕ, List, length, ◌+◌, ◌≤◌, Option, Bool, true, false, refl, sym, ◌∙◌, ap, subst, arith}
-use Rattle.std.specs.Prelude.{◌==◌, if◌then◌else◌, nat_le, IfOk, IfSome, Result, Ok, Err}
+use Rattle.std.proofs.Common.{◌≡◌, inl, inr, ℕ, List, take, ◌+◌, Bool, true, false, refl, sym, ◌∙◌, subst, arith}
+use Rattle.std.specs.Prelude.{◌==◌, if◌then◌else◌, IfOk, Result, Ok, Err}
 use Rattle.std.specs.declared.alloc.AllocError.{AllocError}
 use Rattle.tl_base.specs.declared.desk.Desk.{Ghosts}
-use Rattle.tl_base.specs.declared.limits.TheConstants.{MAX_FILE_BYTES, MAX_PAGE_WIDTH}
-use Rattle.tl_base.specs.Desk.{Files, IsReadFrom}
-use Rattle.tl_command.specs.declared.command.Command.TheVariants.{Check}
+use Rattle.tl_base.specs.declared.limits.TheConstants.{MAX_FILE_BYTES}
 use Rattle.tl_command.specs.Ask.{Asked}
 use Rattle.tl_table.specs.declared.cell.Table.{Table}
 use Rattle.tl_read.specs.declared.reading.Reading.{Reading}
@@ -13,31 +11,34 @@ use Rattle.tl_read.specs.declared.reading.Reading.TheVariants as readings
 use Rattle.tl_read.specs.declared.refusal.Refusal.{Refusal}
 use Rattle.tl_read.specs.declared.refusal.Refusal.TheVariants as refusals
 use Rattle.tl_read.specs.Reading.{IsReading}
-use Rattle.tl_program.specs.declared.answer.Answer.{Answer}
-use Rattle.tl_program.specs.declared.input.Input.{Input}
-use Rattle.tl_program.specs.declared.input.Input.TheVariants as inputs
+use Rattle.tl_lay.specs.declared.answer.Answer.{Answer}
+use Rattle.tl_lay.specs.declared.answer.Answer.TheVariants as answers
+use Rattle.tl_lay.specs.declared.input.Given.{Given}
+use Rattle.tl_lay.specs.declared.input.Input.{Input}
+use Rattle.tl_lay.specs.declared.input.Input.TheVariants as inputs
+use Rattle.tl_lay.specs.declared.summary.Summary.{Summary}
+use Rattle.tl_lay.specs.declared.task.Task.{Task}
+use Rattle.tl_lay.specs.declared.verdict.Verdict.{Verdict}
+use Rattle.tl_lay.specs.declared.verdict.Verdict.TheVariants as verdicts
+use Rattle.tl_lay.specs.Budgets.{budget_in, reach}
+use Rattle.tl_lay.specs.Inputs.{GivesInput, IsOfReading}
+use Rattle.tl_lay.proofs.Inputs.{reading_of_content}
 use Rattle.tl_program.specs.declared.report.Report.{Report}
 use Rattle.tl_program.specs.declared.report.Report.TheVariants as reports
-use Rattle.tl_program.specs.declared.report.Summary.{Summary}
 use Rattle.tl_program.specs.declared.status.Status.{Status}
 use Rattle.tl_program.specs.declared.status.Status.TheVariants as statuses
-use Rattle.tl_program.specs.declared.task.Task.{Task}
-use Rattle.tl_program.specs.Answers.{IsLaidAs, bounded_laid, budget_in, lowest_laid, narrow_laid, reach}
 use Rattle.tl_program.specs.Asks.{input_name, judged_name}
-use Rattle.tl_program.specs.Change.{Change, Holds}
-use Rattle.tl_program.specs.Checks.{IsJudged, IsShownAs, bounded_shown, lowest_shown, narrow_shown}
+use Rattle.tl_program.specs.Change.{Change}
 use Rattle.tl_program.specs.Complete.{SpellsTable}
-use Rattle.tl_program.specs.Deliveries.{Delivery, IsAnswered}
-use Rattle.tl_program.specs.Inputs.{IsOfReading}
+use Rattle.tl_program.specs.Deliveries.{Delivery, delivery_of}
 use Rattle.tl_program.specs.Messages.{status_number, status_of}
-use Rattle.tl_program.specs.ReadFaults.{FailsToJudge, FailsToLoad, FailsToRead, HoldsTable}
-use Rattle.tl_program.specs.Slimmed.{IsSlimmed, found_width}
+use Rattle.tl_program.specs.ReadFaults.{FailsToCheck, FailsToJudge, FailsToLoad}
+use Rattle.tl_program.specs.Reports.{report_of, verdict_report}
 use Rattle.tl_program.specs.Tasks.{task_of}
-use Rattle.tl_program.specs.Tidied.{IsTidied, IsTidyEnd, chosen, left_open, may_be_narrower}
 use Rattle.tl_program.specs.inner.Printing.{IsDelivered, IsPrinted}
-use Rattle.tl_program.specs.inner.Steps.{GivesInput, GivesRefusal, GivesTable, GoesOn, IsLoaded, ReportsOn}
-use Rattle.tl_program.proofs.Inputs.{content_of, of_bytes_mapped, reading_of_content}
-use Rattle.tl_program.proofs.Loading.{no_report, one_report, one_table}
+use Rattle.tl_program.specs.inner.Steps.{DeliversResult, ReportsOn}
+use Rattle.tl_program.proofs.Contents.{content_of}
+use Rattle.tl_program.proofs.Loading.{IsLoadedFrom}
 
 -- ---- the load that failed
 
@@ -68,21 +69,6 @@ module _ {Desk : Type 0} (shown : Ghosts Desk) where
     faults = failed.faults ∙ faults;
     last = last ∙ failed.last;
   }
-
-  -- a check that could not load one of its files failed to read it
-  pub failed_by : (before end after : Desk) (task : Task) (asked : Asked) → asked.command ≡ Check → task ≡ task_of asked →
-      shown.load_faults after ≡ shown.load_faults end →
-      FailsToLoad shown before end (input_name asked) ⊎ FailsToJudge shown before end task asked →
-      FailsToRead shown before after asked
-  failed_by before end after task asked command same last (inl failed) =
-      inl (fails_within before before end after (input_name asked) refl refl refl last failed)
-  failed_by before end after task asked command same last (inr failed) = inr (
-    command,
-    record {
-      table = subst (λ (t : Task). HoldsTable t (shown.files before) (input_name asked)) same failed.table;
-      fails = fails_within before before end after (judged_name asked) refl refl refl last failed.fails;
-    },
-  )
 
 -- ---- the status
 
@@ -146,172 +132,115 @@ usage_no_fault result change text (inl is) same = apart (sym is.0 ∙ same) wher
 usage_no_fault result change text (inr (inl is)) same = no_fault_write (sym is.0 ∙ same)
 usage_no_fault result change text (inr (inr is)) same = no_fault_memory (sym is.0 ∙ same)
 
--- ---- no own part of a command reports it
+-- ---- no answer and no verdict reports it
 
--- a command whose own part reports something else does not end so
-pub own_no_fault : (Own : Delivery → Type 0) → ((delivery : Delivery) → Own delivery → delivery.report ≡ reports.ReadFault → ⊥) →
-    (status : Status) (change : Change) → GoesOn Own status change → status ≡ statuses.ReadFault → ⊥
-own_no_fault Own other status change (inl (delivery, own, delivered)) same =
-    other delivery own (delivered_fault status change delivery delivered same)
-own_no_fault Own other status change (inr (memory, files, said)) same = no_fault_memory (sym memory ∙ same)
+-- an answer
+answer_no_fault : (answer : Answer) → report_of answer ≡ reports.ReadFault → ⊥
+answer_no_fault (answers.Lowest height width page text) e = absurd cc
+answer_no_fault (answers.Bounded height lower width page text) e = absurd cc
+answer_no_fault (answers.Narrow least width text) e = absurd cc
+answer_no_fault (answers.Slimmest width height evidence) e = absurd cc
+answer_no_fault (answers.Between width least evidence) e = absurd cc
+answer_no_fault (answers.TooTall height evidence) e = absurd cc
+answer_no_fault (answers.Tidy height width evidence) e = absurd cc
+answer_no_fault (answers.Wider width least evidence) e = absurd cc
+answer_no_fault (answers.Unchosen evidence) e = absurd cc
+answer_no_fault (answers.Refused refusal) e = absurd cc
 
--- a layout
-laid_no_fault : (task : Task) (table : Table) (answer : Answer) {report : Report} → IsLaidAs task table answer report →
-    report ≡ reports.ReadFault → ⊥
-laid_no_fault task table answer (lowest_laid is) e = absurd cc
-laid_no_fault task table answer (bounded_laid is) e = absurd cc
-laid_no_fault task table answer (narrow_laid is) e = absurd cc
+-- so what a call returned ends with another status
+pub result_no_fault : (asked : Asked) (result : Result Answer AllocError) (status : Status) (change : Change) →
+    DeliversResult asked result status change → status ≡ statuses.ReadFault → ⊥
+result_no_fault asked (Ok answer) status change (inl delivered) same =
+    answer_no_fault answer (delivered_fault status change (delivery_of asked answer) delivered same)
+result_no_fault asked (Ok answer) status change (inr out) same = no_fault_memory (sym out.0 ∙ same)
+result_no_fault asked (Err error) status change out same = no_fault_memory (sym out.0 ∙ same)
 
-pub answered_no_fault : (asked : Asked) (table : Table) (delivery : Delivery) → IsAnswered asked table delivery →
-    delivery.report ≡ reports.ReadFault → ⊥
-answered_no_fault asked table delivery own e =
-    laid_no_fault (task_of asked) table own.answer own.laid (sym (ap (λ (d : Delivery). d.report) own.so) ∙ e)
-
--- a search for the narrowest page
-pub slimmed_no_fault : (asked : Asked) (table : Table) (delivery : Delivery) → IsSlimmed asked table delivery →
-    delivery.report ≡ reports.ReadFault → ⊥
-slimmed_no_fault asked table delivery own e =
-    by_tests (own.slim.width == own.slim.least) (nat_le own.slim.least MAX_PAGE_WIDTH) (sym own.reports ∙ e) where
-      by_tests : (met some : Bool) → (if met then reports.Slimmest own.slim.width asked.number
-          else if some then reports.Between (found_width own.slim.width) own.slim.least
-          else reports.TooTall asked.number) ≡ reports.ReadFault → ⊥
-      by_tests true some e = absurd cc
-      by_tests false true e = absurd cc
-      by_tests false false e = absurd cc
-
--- a page that is trimmed
-pub tidied_no_fault : (asked : Asked) (table : Table) (delivery : Delivery) → IsTidied asked table delivery →
-    delivery.report ≡ reports.ReadFault → ⊥
-tidied_no_fault asked table delivery (inl own) e = by_end own.trimmed.ends e where
-  by_end : {told : _} {report : Report} → IsTidyEnd (task_of asked) table own.trimmed.height own.trimmed.slim told report →
-      report ≡ reports.ReadFault → ⊥
-  by_end (may_be_narrower apart) e = absurd cc
-  by_end (left_open met left) e = absurd cc
-  by_end (chosen met within) e = absurd cc
-tidied_no_fault asked table delivery (inr own) e =
-    laid_no_fault (task_of asked) table own.answer own.laid (sym (ap (λ (d : Delivery). d.report) own.so) ∙ e)
+-- a verdict
+pub verdict_no_fault : (verdict : Verdict) (report : Report) → report ≡ verdict_report verdict → report ≡ reports.ReadFault → ⊥
+verdict_no_fault verdict report same fault = by_verdict verdict (sym same ∙ fault) where
+  by_verdict : (verdict : Verdict) → verdict_report verdict ≡ reports.ReadFault → ⊥
+  by_verdict (verdicts.Lowest height width) e = absurd cc
+  by_verdict (verdicts.Bounded height lower width) e = absurd cc
+  by_verdict (verdicts.Narrow least width) e = absurd cc
+  by_verdict (verdicts.Rejected rejection) e = absurd cc
+  by_verdict (verdicts.Refused refusal) e = absurd cc
 
 -- a demonstration
 pub summary_no_fault : (summary : Summary) → reports.Summary summary ≡ reports.ReadFault → ⊥
 summary_no_fault summary e = absurd cc
 
--- a certificate that is judged
-pub judged_no_fault : (task : Task) (table : Table) (text : List ℕ) (report : Report) → IsJudged task table text report →
-    report ≡ reports.ReadFault → ⊥
-judged_no_fault task table text report (inl accepted) e = by_shown accepted.shows e where
-  by_shown : {told : Report} → IsShownAs task table accepted.certificate told → told ≡ reports.ReadFault → ⊥
-  by_shown (lowest_shown is) e = absurd cc
-  by_shown (bounded_shown is) e = absurd cc
-  by_shown (narrow_shown is) e = absurd cc
-judged_no_fault task table text report (inr rejected) e = apart (sym rejected.told ∙ e) where
-  apart : reports.Rejected rejected.rejection ≡ reports.ReadFault → ⊥
-  apart e = absurd cc
-
--- a refusal is another report
-refused_no_fault : (refusal : Refusal) → reports.Refused refusal ≡ reports.ReadFault → ⊥
+-- a refusal
+pub refused_no_fault : (refusal : Refusal) → reports.Refused refusal ≡ reports.ReadFault → ⊥
 refused_no_fault refusal e = absurd cc
 
--- ---- the file that was read
-
--- what is given is a read fault where no bytes give it
-pub given_no_fault : (task : Task) (bytes : List ℕ) (input : Input) → input ≡ inputs.Reported reports.ReadFault →
-    GivesInput task bytes input → ⊥
-given_no_fault task bytes input is given = by_reading given.reading given.so where
-  one_refusal : (refusal : Refusal) → input ≡ inputs.Reported (reports.Refused refusal) → ⊥
-  one_refusal refusal told = refused_no_fault refusal (one_report (reports.Refused refusal) reports.ReadFault (sym told ∙ is))
-
-  by_reading : (reading : Reading) → IsOfReading (reach task) (GivesRefusal input) (GivesTable task input) reading → ⊥
-  by_reading (readings.Refused refusal) told = one_refusal refusal told
-  by_reading (readings.Table found) (inl far) = one_refusal _ far.1
-  by_reading (readings.Table found) (inr own) = no_report found (budget_in task found) reports.ReadFault (sym own.1 ∙ is)
+-- ---- the bytes of a check
 
 -- bytes of which a table is given spell one
-pub given_spells : (task : Task) (bytes : List ℕ) (input : Input) (table : Table) (budget : ℕ) →
-    input ≡ inputs.Table table budget → GivesInput task bytes input → SpellsTable task bytes table
-given_spells task bytes input table budget is given = by_reading given.reading given.read given.so where
+pub given_spells : (task : Task) (bytes : List ℕ) (input : Input) (given : Given) → input ≡ inputs.Table given →
+    GivesInput task bytes input → SpellsTable task bytes given.table
+given_spells task bytes input given is gives = by_reading gives.reading gives.read gives.so where
+  no_refusal : (refusal : Refusal) → input ≡ inputs.Refused refusal → ⊥
+  no_refusal refusal told = never (sym is ∙ told) where
+    never : inputs.Table given ≡ inputs.Refused refusal → ⊥
+    never e = absurd cc
+
   by_reading : (reading : Reading) → IsReading task.source bytes reading →
-      IsOfReading (reach task) (GivesRefusal input) (GivesTable task input) reading → SpellsTable task bytes table
-  by_reading (readings.Refused refusal) read told =
-      absurd (no_report table budget (reports.Refused refusal) (sym is ∙ told))
-  by_reading (readings.Table found) read (inl far) = absurd (no_report table budget _ (sym is ∙ far.1))
+      IsOfReading (reach task) (λ refusal. input ≡ inputs.Refused refusal)
+      (λ table. input ≡ inputs.Table (record { table = table; budget = budget_in task table })) reading →
+      SpellsTable task bytes given.table
+  by_reading (readings.Refused refusal) read told = absurd (no_refusal refusal told)
+  by_reading (readings.Table found) read (inl far) = absurd (no_refusal _ far.1)
   by_reading (readings.Table found) read (inr own) =
-      let same = one_table table found budget (budget_in task found) (sym is ∙ own.1) in
-      subst (SpellsTable task bytes) (sym same) (record { read = read; within = own.0 })
+      subst (SpellsTable task bytes) (one_table found (sym own.1 ∙ is)) (record { read = read; within = own.0 }) where
+        one_table : (found : Table) → inputs.Table (record { table = found; budget = budget_in task found }) ≡ inputs.Table given →
+            found ≡ given.table
+        one_table found e = cc
 
--- so does a file that was loaded, if it gives a table
-pub loaded_table : (task : Task) (asked : Asked) (files : Option Files) (faults faults_after : ℕ) (input : Input) (table : Table)
-    (budget : ℕ) → input ≡ inputs.Table table budget → IsLoaded task asked files faults faults_after input →
-    (faults_after ≡ faults) × HoldsTable task files (input_name asked)
-loaded_table task asked files faults faults_after input table budget is (inl fault) =
-    absurd (no_report table budget reports.ReadFault (sym is ∙ fault.0))
-loaded_table task asked files faults faults_after input table budget is (inr (stay, (bytes, holds, of))) =
-    (stay, (bytes, table, holds, given_spells task bytes input table budget is of))
-
--- where a table has one report, and what is given as a report is reported, it is so of the bytes
-pub unread_reported : (task : Task) (bytes : List ℕ) (input : Input) (report : Report) → GivesInput task bytes input →
-    ((table : Table) (budget : ℕ) → input ≡ inputs.Table table budget → report ≡ reports.ReadFault) →
-    ((told : Report) → input ≡ inputs.Reported told → report ≡ told) →
-    ReportsOn task (λ table. report ≡ reports.ReadFault) bytes report
-unread_reported task bytes input report given by_table by_report = of_bytes_mapped task.source (reach task) (GivesRefusal input)
-    (λ refusal. report ≡ reports.Refused refusal) (GivesTable task input) (λ table. report ≡ reports.ReadFault)
-    (λ refusal told. by_report (reports.Refused refusal) told) (λ table told. by_table table (budget_in task table) told) bytes given
-
--- bytes of which nothing but a read fault is reported spell a table
+-- bytes of which a read fault is reported spell a table
 pub unread_spells : (task : Task) (Own : Table → Type 0) (bytes : List ℕ) (report : Report) → report ≡ reports.ReadFault →
-    ReportsOn task Own bytes report → (table : Table) × SpellsTable task bytes table × Own table
+    ReportsOn task Own bytes report → (table : Table) × SpellsTable task bytes table
 unread_spells task Own bytes report fault of = by_reading of.reading of.read of.so where
   by_reading : (reading : Reading) → IsReading task.source bytes reading →
       IsOfReading (reach task) (λ refusal. report ≡ reports.Refused refusal) Own reading →
-      (table : Table) × SpellsTable task bytes table × Own table
+      (table : Table) × SpellsTable task bytes table
   by_reading (readings.Refused refusal) read told = absurd (refused_no_fault refusal (sym told ∙ fault))
-  by_reading (readings.Table found) read (inl far) = absurd (refused_no_fault _ (sym far.1 ∙ fault))
-  by_reading (readings.Table found) read (inr own) = (found, record { read = read; within = own.0 }, own.1)
+  by_reading (readings.Table table) read (inl far) = absurd (refused_no_fault _ (sym far.1 ∙ fault))
+  by_reading (readings.Table table) read (inr own) = (table, record { read = read; within = own.0 })
 
--- so does the file from which they were loaded
-pub unread_table : (task : Task) (files : Option Files) (name called bytes : List ℕ) (report : Report) → name ≡ called →
-    length bytes ≤ MAX_FILE_BYTES + 1 → IfSome files (λ held. IsReadFrom held name MAX_FILE_BYTES bytes) →
-    report ≡ reports.ReadFault → ReportsOn task (λ table. report ≡ reports.ReadFault) bytes report → HoldsTable task files called
-unread_table task files name called bytes report same short read fault of =
-    let content = content_of MAX_FILE_BYTES files name bytes short read in
-    let spells = unread_spells task (λ table. report ≡ reports.ReadFault) bytes report fault of in (
-      content.0,
-      spells.0,
-      subst (λ (n : List ℕ). Holds files n content.0) same content.1,
-      record {
-        read = reading_of_content task.source content.0 bytes (readings.Table spells.0) content.2 spells.1.read;
-        within = spells.1.within;
-      },
-    )
+-- the first bytes of a file spell what the file does
+pub content_spells : (task : Task) (content bytes : List ℕ) (table : Table) → take (MAX_FILE_BYTES + 1) content ≡ bytes →
+    SpellsTable task bytes table → SpellsTable task content table
+content_spells task content bytes table is spells = record {
+  read = reading_of_content task.source content bytes (readings.Table table) is spells.read;
+  within = spells.within;
+}
 
 -- ---- by what a call returns
 
--- bytes that were read give no read fault
-pub given_faults : (task : Task) (bytes : List ℕ) (Fails : Type 0) (result : Result Input AllocError) →
-    IfOk result (GivesInput task bytes) → IfOk result (λ input. input ≡ inputs.Reported reports.ReadFault → Fails)
-given_faults task bytes Fails (Err error) given = tt
-given_faults task bytes Fails (Ok input) given = λ is. absurd (given_no_fault task bytes input is given)
-
--- nor does a text that was judged
-pub judged_faults : (task : Task) (table : Table) (text : List ℕ) (Fails : Type 0) (result : Result Report AllocError) →
-    IfOk result (IsJudged task table text) → IfOk result (λ report. report ≡ reports.ReadFault → Fails)
-judged_faults task table text Fails (Err error) judged = tt
-judged_faults task table text Fails (Ok report) judged = λ fault. absurd (judged_no_fault task table text report judged fault)
-
--- nor do both
-pub judged_both_faults : (task : Task) (bytes text : List ℕ) (Fails : Type 0) (result : Result Report AllocError) →
-    IfOk result (λ report. ReportsOn task (λ table. IsJudged task table text report) bytes report) →
-    IfOk result (λ report. report ≡ reports.ReadFault → Fails)
-judged_both_faults task bytes text Fails (Err error) reports = tt
-judged_both_faults task bytes text Fails (Ok report) reports = λ fault.
-    let found = unread_spells task (λ table. IsJudged task table text report) bytes report fault reports in
-    absurd (judged_no_fault task found.0 text report found.2 fault)
-
--- where the certificate could not be loaded, a read fault is that one, and the file is a table
-pub unread_faults : (task : Task) (files : Option Files) (name called bytes : List ℕ) (Fails Other : Type 0)
-    (result : Result Report AllocError) → name ≡ called → length bytes ≤ MAX_FILE_BYTES + 1 →
-    IfSome files (λ held. IsReadFrom held name MAX_FILE_BYTES bytes) →
+-- where the certificate could not be loaded, a read fault is that one, and the bytes are a table
+pub unread_fails : {Desk : Type 0} (shown : Ghosts Desk) (before after : Desk) (task : Task) (bytes name : List ℕ)
+    (result : Result Report AllocError) → FailsToLoad shown before after name →
     IfOk result (λ report. ReportsOn task (λ table. report ≡ reports.ReadFault) bytes report) →
-    (HoldsTable task files called → Fails) → IfOk result (λ report. report ≡ reports.ReadFault → Other ⊎ Fails)
-unread_faults task files name called bytes Fails Other (Err error) same short read reports fails = tt
-unread_faults task files name called bytes Fails Other (Ok report) same short read reports fails = λ fault.
-    inr (fails (unread_table task files name called bytes report same short read fault reports))
+    IfOk result (λ report. report ≡ reports.ReadFault → FailsToJudge shown before after task bytes name)
+unread_fails shown before after task bytes name (Err error) fails told = tt
+unread_fails shown before after task bytes name (Ok report) fails told = λ fault.
+    let found = unread_spells task (λ table. report ≡ reports.ReadFault) bytes report fault told in
+    record { table = found.0; spells = found.1; fails = fails }
+
+-- and the file that is read holds such bytes
+pub check_fails : {Desk : Type 0} (shown : Ghosts Desk) (before start end after : Desk) (asked : Asked) (task : Task)
+    (bytes : List ℕ) → task ≡ task_of asked → IsLoadedFrom (shown.files before) (input_name asked) bytes →
+    shown.files start ≡ shown.files before → shown.said start ≡ shown.said before →
+    shown.load_faults start ≡ shown.load_faults before → shown.load_faults after ≡ shown.load_faults end →
+    FailsToJudge shown start end task bytes (judged_name asked) → FailsToCheck shown before after asked
+check_fails shown before start end after asked task bytes same loaded files said faults last failed =
+    let content = content_of MAX_FILE_BYTES (shown.files before) (input_name asked) bytes loaded.short loaded.read in (
+      content.0,
+      content.1,
+      record {
+        table = failed.table;
+        spells = content_spells (task_of asked) content.0 bytes failed.table content.2
+            (subst (λ (t : Task). SpellsTable t bytes failed.table) same failed.spells);
+        fails = fails_within shown before start end after (judged_name asked) files said faults last failed.fails;
+      },
+    )

@@ -6,20 +6,20 @@ use Rattle.tl_base.specs.Desk.{Files}
 use Rattle.tl_cert.specs.declared.certificate.Certificate.{Certificate}
 use Rattle.tl_cert.specs.Faults.{IsTextOf}
 use Rattle.tl_command.specs.declared.command.Command.{Command}
-use Rattle.tl_command.specs.declared.command.Command.TheVariants.{Check}
+use Rattle.tl_command.specs.declared.command.Command.TheVariants.{Check, Narrow, Tidy}
 use Rattle.tl_command.specs.Ask.{Asked}
 use Rattle.tl_table.specs.declared.cell.Table.{Table}
 use Rattle.tl_read.specs.declared.reading.Reading.TheVariants as readings
 use Rattle.tl_read.specs.Reading.{IsReading}
-use Rattle.tl_program.specs.declared.task.Task.{Task}
-use Rattle.tl_program.specs.Answers.{budget_in}
+use Rattle.tl_lay.specs.declared.task.Task.{Task}
+use Rattle.tl_lay.specs.Budgets.{budget_in}
 use Rattle.tl_program.specs.Asks.{IsAskOf, input_name, judged_name}
 use Rattle.tl_program.specs.Change.{Change, DoesNotFail, Holds, with_all}
-use Rattle.tl_program.specs.Complete.{claim_status}
+use Rattle.tl_program.specs.Complete.{IsLaidStatus, IsSlimStatus, claim_status}
 use Rattle.tl_program.specs.Deliveries.{Delivery}
 use Rattle.tl_program.specs.Headline.{IsCarriedOut}
 use Rattle.tl_program.specs.Messages.{status_number, status_of}
-use Rattle.tl_program.specs.Tasks.{task_of}
+use Rattle.tl_program.specs.Tasks.{slim_task, task_of}
 
 -- a check asks for what a command has stored: the same file, one of the certificates on the page that it names, and the same
 -- budget
@@ -52,3 +52,11 @@ AcceptsStored command task_in IsMeant words change status = (earlier : List (Lis
     Contains delivery.stores (record { name = judged_name checked; bytes = text }) →
     IsTextOf text certificate → before.files_after ≡ Some files → change.files ≡ Some files → DoesNotFail change →
     (status ≡ status_number (claim_status certificate.claim)) ⊎ (status ≡ 9)
+
+-- a check accepts each certificate that `narrow` has stored
+abbrev pub AcceptsSlim : List (List ℕ) → Change → ℕ → Type 0
+AcceptsSlim = AcceptsStored Narrow slim_task IsSlimStatus
+
+-- and each that `tidy` has
+abbrev pub AcceptsTidy : List (List ℕ) → Change → ℕ → Type 0
+AcceptsTidy = AcceptsStored Tidy task_of IsLaidStatus

@@ -1,15 +1,15 @@
 -- What does not depend on how many workers there are, and what not on the search either: two runs on the same files, by arguments
 -- that differ in nothing else.
-use Rattle.std.specs.Prelude.{◌≡◌, ◌⊎◌, ℕ, List, [], Option, None, Some}
+use Rattle.std.specs.Prelude.{◌≡◌, ◌⊎◌, ℕ, List, Option, None, Some}
 use Rattle.tl_base.specs.Desk.{Files, longer}
 use Rattle.tl_command.specs.declared.command.Command.TheVariants.{Lay, Tidy, Check}
 use Rattle.tl_command.specs.declared.options.Search.{Search}
 use Rattle.tl_command.specs.Ask.{Asked}
-use Rattle.tl_table.specs.declared.cell.Table.{Table, out-Table}
-use Rattle.tl_table.specs.Tables.{inner_tables}
+use Rattle.tl_table.specs.declared.cell.Table.{Table}
 use Rattle.tl_read.specs.declared.reading.Reading.TheVariants as readings
 use Rattle.tl_read.specs.declared.source.Source.{Source}
 use Rattle.tl_read.specs.Reading.{IsReading}
+use Rattle.tl_lay.specs.Flat.{HasNoNested}
 use Rattle.tl_program.specs.declared.report.Report.TheVariants as reports
 use Rattle.tl_program.specs.Asks.{IsAskOf, input_name, page_name}
 use Rattle.tl_program.specs.Change.{Change, DoesNotFail, Holds}
@@ -81,10 +81,6 @@ abbrev pub LowestAlike : List (List ℕ) → Change → ℕ → Type 0
 LowestAlike words change status = (earlier : List (List ℕ)) (before : Change) (told : ℕ) (one other : Asked) →
     IsAskOf Lay earlier one → IsAskOf Lay words other → but_effort one ≡ but_effort other → Ends earlier before told →
     BeginAlike before change → told ≡ 0 → status ≡ 0 → (height : ℕ) × PrintsLowest before height × PrintsLowest change height
-
--- no table is nested in a cell of this one
-abbrev pub HasNoNested : Table → Type 0
-HasNoNested table = inner_tables (out-Table table) ≡ []
 
 -- the bytes are those of a table in whose cells none is nested
 abbrev pub SpellsFlat : Source → List ℕ → Type 0

@@ -7,21 +7,21 @@ use Rattle.tl_cert.specs.declared.certificate.Claim.{Claim}
 use Rattle.tl_cert.specs.declared.certificate.Claim.TheVariants as claims
 use Rattle.tl_cert.specs.Faults.{IsTextOf}
 use Rattle.tl_command.specs.declared.command.Command.{Command}
-use Rattle.tl_command.specs.declared.command.Command.TheVariants.{Lay, Check}
+use Rattle.tl_command.specs.declared.command.Command.TheVariants.{Lay, Narrow, Tidy, Check}
 use Rattle.tl_command.specs.Ask.{Asked}
 use Rattle.tl_table.specs.declared.cell.Table.{Table}
 use Rattle.tl_read.specs.declared.reading.Reading.TheVariants as readings
 use Rattle.tl_read.specs.declared.refusal.Refusal.{Refusal}
 use Rattle.tl_program.specs.declared.status.Status.{Status}
 use Rattle.tl_program.specs.declared.status.Status.TheVariants as statuses
-use Rattle.tl_program.specs.declared.task.Task.{Task}
-use Rattle.tl_program.specs.Answers.{budget_in, reach}
+use Rattle.tl_lay.specs.declared.task.Task.{Task}
+use Rattle.tl_lay.specs.Budgets.{budget_in, reach}
 use Rattle.tl_program.specs.Asks.{IsAskOf, input_name, certificate_name, judged_name}
 use Rattle.tl_program.specs.Change.{Change, DoesNotFail, Holds}
-use Rattle.tl_program.specs.Checks.{IsValidIn}
+use Rattle.tl_lay.specs.Checks.{IsValidIn}
 use Rattle.tl_program.specs.Headline.{Ends}
 use Rattle.tl_program.specs.Messages.{status_number, refusal_status}
-use Rattle.tl_program.specs.Tasks.{task_of}
+use Rattle.tl_program.specs.Tasks.{slim_task, task_of}
 use Rattle.tl_read.specs.Reading.{IsReading}
 
 -- the desk shows a file of this name with these bytes
@@ -90,6 +90,34 @@ pub record AsksForSame (files : Option Files) (laid checked : Asked) : Type 0 wh
   pub style : (task_of laid).style ≡ (task_of checked).style
   pub source : (task_of laid).source ≡ (task_of checked).source
   pub budget : HaveSameBudget files laid checked
+
+-- ---- `narrow`
+
+-- the search found the narrowest page, or that there is none, or ended early
+abbrev pub IsSlimStatus : ℕ → Type 0
+IsSlimStatus status = (status ≡ 0) ⊎ ((status ≡ 3) ⊎ (status ≡ 12))
+
+-- a file that spells a table within all limits, of which any page may be searched, gives 0, 3 or 12
+abbrev pub FindsWidth : List (List ℕ) → Change → ℕ → Type 0
+FindsWidth words change status = (asked : Asked) (bytes : List ℕ) (table : Table) → IsAskOf Narrow words asked →
+    ShowsFile change (input_name asked) bytes → DoesNotFail change → SpellsTable (slim_task asked) bytes table →
+    (status ≡ 0) ⊎ ((status ≡ 3) ⊎ ((status ≡ 12) ⊎ (status ≡ 9)))
+
+-- a file that is refused gives the status of its refusal
+abbrev pub RefusesSlim : List (List ℕ) → Change → ℕ → Type 0
+RefusesSlim = IsRefusedBy Narrow
+
+-- ---- `tidy`
+
+-- a file that spells a table within all limits gives 0, 3 or 4
+abbrev pub FindsTidy : List (List ℕ) → Change → ℕ → Type 0
+FindsTidy = IsCompleteBy Tidy
+
+-- a file that is refused gives the status of its refusal
+abbrev pub RefusesTidy : List (List ℕ) → Change → ℕ → Type 0
+RefusesTidy = IsRefusedBy Tidy
+
+-- ---- a check of what was laid out
 
 -- a run gave a page, or showed that there is none
 abbrev pub IsLaidStatus : ℕ → Type 0

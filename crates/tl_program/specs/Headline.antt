@@ -6,28 +6,33 @@ use Rattle.tl_base.specs.Desk.{longer, SaysPrefix, Rose}
 use Rattle.tl_command.specs.declared.command.Command.{Command}
 use Rattle.tl_command.specs.declared.command.Command.TheVariants.{Lay, Narrow, Tidy, Check, Demo}
 use Rattle.tl_command.specs.Ask.{Asked, IsAsk, AskForNothing}
+use Rattle.tl_lay.specs.declared.summary.Summary.{Summary}
+use Rattle.tl_lay.specs.Answers.{IsLaidAs}
+use Rattle.tl_lay.specs.Budgets.{reach}
+use Rattle.tl_lay.specs.Demonstration.{IsDemonstrated}
+use Rattle.tl_lay.specs.Slimmed.{IsSlimmed}
+use Rattle.tl_lay.specs.Tidied.{IsTidiedAs}
 use Rattle.tl_program.specs.declared.report.Report.TheVariants as reports
-use Rattle.tl_program.specs.Answers.{reach}
 use Rattle.tl_program.specs.Change.{Change, StoresSome, FailsToStore, with_all}
 use Rattle.tl_program.specs.Checks.{IsChecked}
-use Rattle.tl_program.specs.Demonstration.{IsDemonstrated}
 use Rattle.tl_program.specs.Messages.{status_number, status_of, message_of}
 use Rattle.tl_program.specs.Deliveries.{Delivery, reported, ComesOfInput, IsAnswered}
-use Rattle.tl_program.specs.Slimmed.{IsSlimmed}
 use Rattle.tl_program.specs.Tasks.{slim_task, task_of}
-use Rattle.tl_program.specs.Tidied.{IsTidied}
 
--- What comes of the command that is asked for. A layout: its own part is an answer (specs/Answers: lowest, bounded, too
--- narrow). A search for the narrowest page: its own part is what that comes to (specs/Slimmed), and so is that of a page which is
--- as low as any and then as narrow (specs/Tidied). A check: its own part is that the certificate is judged (specs/Checks: what it
--- shows, or why it is rejected). Or the numbers of a demonstration
+-- What comes of the command that is asked for. A layout, a search for the narrowest page, or for one that is as low as any and
+-- then as narrow: its own part is the answer of the call of tl_lay for the table. A check: its own part is that the certificate is
+-- judged. Or the numbers of a demonstration
 abbrev pub IsCarriedOut : Command → Asked → Change → Delivery → Type 0
-IsCarriedOut Lay asked change delivery = ComesOfInput asked (reach (task_of asked)) (IsAnswered asked) change delivery
-IsCarriedOut Narrow asked change delivery = ComesOfInput asked (reach (slim_task asked)) (IsSlimmed asked) change delivery
-IsCarriedOut Tidy asked change delivery = ComesOfInput asked (reach (task_of asked)) (IsTidied asked) change delivery
+IsCarriedOut Lay asked change delivery = ComesOfInput asked (reach (task_of asked))
+    (IsAnswered (IsLaidAs (task_of asked)) asked) change delivery
+IsCarriedOut Narrow asked change delivery = ComesOfInput asked (reach (slim_task asked))
+    (IsAnswered (IsSlimmed (slim_task asked) asked.number) asked) change delivery
+IsCarriedOut Tidy asked change delivery = ComesOfInput asked (reach (task_of asked))
+    (IsAnswered (IsTidiedAs (task_of asked)) asked) change delivery
 IsCarriedOut Check asked change delivery = ComesOfInput asked (reach (task_of asked)) (IsChecked asked change.files)
     change delivery
-IsCarriedOut Demo asked change delivery = IsDemonstrated asked.number delivery
+IsCarriedOut Demo asked change delivery = (summary : Summary) × IsDemonstrated asked.number summary
+    × (delivery ≡ reported (reports.Summary summary))
 
 -- what comes of the arguments: they are invalid, or the command that they ask for is carried out
 abbrev pub ComesOf : List (List ℕ) → Change → Delivery → Type 0

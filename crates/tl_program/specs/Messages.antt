@@ -9,11 +9,11 @@ use Rattle.tl_read.specs.declared.refusal.RecordFault.{RecordFault}
 use Rattle.tl_read.specs.declared.refusal.RecordFault.TheVariants as records
 use Rattle.tl_read.specs.declared.refusal.Refusal.{Refusal}
 use Rattle.tl_read.specs.declared.refusal.Refusal.TheVariants as refusals
-use Rattle.tl_program.specs.declared.rejection.Rejection.{Rejection}
-use Rattle.tl_program.specs.declared.rejection.Rejection.TheVariants as rejections
+use Rattle.tl_lay.specs.declared.rejection.Rejection.{Rejection}
+use Rattle.tl_lay.specs.declared.rejection.Rejection.TheVariants as rejections
 use Rattle.tl_program.specs.declared.report.Report.{Report}
 use Rattle.tl_program.specs.declared.report.Report.TheVariants as reports
-use Rattle.tl_program.specs.declared.report.Summary.{Summary}
+use Rattle.tl_lay.specs.declared.summary.Summary.{Summary}
 use Rattle.tl_program.specs.declared.status.Status.{Status}
 use Rattle.tl_program.specs.declared.status.Status.TheVariants as statuses
 use Rattle.tl_program.specs.Change.{Change}

@@ -10,7 +10,7 @@ use Rattle.tl_command.specs.declared.options.Search.TheVariants as searches
 use Rattle.tl_command.specs.Ask.{Asked}
 use Rattle.tl_read.specs.declared.source.Source.{Source}
 use Rattle.tl_read.specs.declared.source.Source.TheVariants.{Html, Csv}
-use Rattle.tl_program.specs.declared.task.Task.{Task}
+use Rattle.tl_lay.specs.declared.task.Task.{Task}
 use Rattle.tl_program.specs.Asks.{certificate_name}
 
 -- what is given, or else the default

@@ -1,30 +1,19 @@
-//! Carries out a command line over a desk: it lays out a table on a page of fixed-width text, as low as any
-//! layout can be, with a certificate that no page is lower, or judges such a certificate. It depends on the
-//! crates that read arguments and files, search, judge and draw; here are the order of the steps and the
-//! messages. Its one contract: the statuses of `run`, what is stored and printed after each, and what the page
-//! and the certificate are.
+//! Carries out a command line over a desk: it loads files, lays out their table or judges a certificate of it,
+//! stores what that gives, and prints a message. It depends on the crate that lays out bytes in memory; here are
+//! the desk, the order of the steps, the messages and the statuses. Its one contract: `run` stores and prints the
+//! answer of the call for the bytes that were loaded.
 #![tactic(auto)]
 
-mod answer;
-mod budget;
+mod answers;
 mod check;
 mod input;
-mod lay;
-mod limits;
-mod makers;
 mod messages;
 mod names;
-mod narrow;
 mod output;
-mod rejection;
 mod report;
-mod rounds;
 mod running;
 mod status;
-mod summary;
 mod task;
-mod tidy;
-mod widths;
 
 pub use running::run;
 pub use status::Status;

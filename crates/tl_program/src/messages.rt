@@ -5,9 +5,9 @@ ghost use Rattle.tl_program.specs.Messages.{fault_words, record_words, limit_wor
 ghost use Rattle.tl_program.specs.Messages.{summary_text, message_of};
 ghost use Rattle.tl_program.specs.declared.report.Report.TheVariants as reports;
 
-use crate::rejection::Rejection;
-use crate::report::{Report, Summary};
+use crate::report::Report;
 use std::alloc::{AllocError, Global};
+use tl_lay::{Rejection, Summary};
 use tl_read::{Fault, Limit, RecordFault, Refusal};
 
 /// What is wrong with a file that is no document.

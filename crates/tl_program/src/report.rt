@@ -2,27 +2,11 @@
 
 ghost use Rattle.std.specs.Prelude.{◌≡◌};
 ghost use Rattle.tl_program.specs.Messages.{refusal_status, status_of};
-ghost use Rattle.tl_program.specs.inner.Claims.{report_of};
+ghost use Rattle.tl_program.specs.Reports.{report_of, verdict_report};
 
-use crate::rejection::Rejection;
 use crate::status::Status;
-use tl_cert::Claim;
+use tl_lay::{Answer, Rejection, Summary, Verdict};
 use tl_read::Refusal;
-
-/// The numbers of a demonstration.
-#[derive(Clone, Copy)]
-pub struct Summary {
-    /// The cells of the table.
-    pub cells: u32,
-    /// The ways in which each span of columns can have one of its classes of widths.
-    pub count: u64,
-    /// The lines of the layout that was found.
-    pub height: u32,
-    /// No layout has fewer lines.
-    pub lower: u32,
-    /// The cuts that the search made.
-    pub cuts: u32,
-}
 
 /// What is reported. Heights are in lines, widths in columns.
 #[derive(Clone, Copy)]
@@ -62,6 +46,54 @@ pub enum Report {
 }
 
 impl Report {
+    /// What is reported of an answer.
+    pub fn of_answer(answer: &Answer) -> Report
+        ensures { result ≡ report_of answer.now }
+    {
+        match *answer {
+            Answer::Lowest { height, width, .. } => Report::Lowest { height, width },
+            Answer::Bounded {
+                height,
+                lower,
+                width,
+                ..
+            } => Report::Bounded {
+                height,
+                lower,
+                width,
+            },
+            Answer::Narrow { least, width, .. } => Report::Narrow { least, width },
+            Answer::Slimmest { width, height, .. } => Report::Slimmest { width, height },
+            Answer::Between { width, least, .. } => Report::Between { width, least },
+            Answer::TooTall { height, .. } => Report::TooTall { height },
+            Answer::Tidy { height, width, .. } => Report::Tidy { height, width },
+            Answer::Wider { width, least, .. } => Report::Wider { width, least },
+            Answer::Unchosen { .. } => Report::Unchosen,
+            Answer::Refused(refusal) => Report::Refused(refusal),
+        }
+    }
+
+    /// What is reported of a verdict.
+    pub fn of_verdict(verdict: Verdict) -> Report
+        ensures { result ≡ verdict_report verdict }
+    {
+        match verdict {
+            Verdict::Lowest { height, width } => Report::Lowest { height, width },
+            Verdict::Bounded {
+                height,
+                lower,
+                width,
+            } => Report::Bounded {
+                height,
+                lower,
+                width,
+            },
+            Verdict::Narrow { least, width } => Report::Narrow { least, width },
+            Verdict::Rejected(rejection) => Report::Rejected(rejection),
+            Verdict::Refused(refusal) => Report::Refused(refusal),
+        }
+    }
+
     /// The status with which the program ends after it.
     pub fn status(self) -> Status
         ensures { result ≡ status_of self }
@@ -93,20 +125,5 @@ fn refusal_status(refusal: Refusal) -> Status
             Status::BadInput
         }
         Refusal::Limit(_, _) => Status::Limit,
-    }
-}
-
-/// The report of what is claimed, for a page of `page` columns, of which the layout takes `width`.
-pub fn report_of(page: u32, claim: Claim, width: u64) -> Report
-    ensures { result ≡ report_of page claim width }
-{
-    match claim {
-        Claim::Lowest(height) => Report::Lowest { height, width },
-        Claim::Bounded(height, lower) => Report::Bounded {
-            height,
-            lower,
-            width,
-        },
-        Claim::Narrow(least) => Report::Narrow { least, width: page },
     }
 }

@@ -1,40 +1,42 @@
-//! Carries out a command over a desk: one on a file begins with the table that the file gives, and
-//! goes on with its own part.
+//! Carries out a command over a desk: one on a file begins with the bytes of the file, and goes on with its own
+//! part.
 
-ghost use Rattle.std.specs.Prelude.{◌≡◌, ◌≤◌, ℕ, List, length, map, string_bytes};
-ghost use Rattle.tl_base.specs.declared.limits.TheConstants.{MAX_HEIGHT};
+ghost use Rattle.std.specs.Prelude.{◌≡◌, ◌+◌, ◌≤◌, ℕ, IfErr, IfOk, IfSome, List, length, map, string_bytes};
+ghost use Rattle.tl_base.specs.declared.limits.TheConstants.{MAX_FILE_BYTES, MAX_HEIGHT};
+ghost use Rattle.tl_base.specs.Desk.{IsReadFrom};
 ghost use Rattle.tl_command.specs.declared.command.Command.TheVariants as commands;
 ghost use Rattle.tl_command.specs.Ask.{asked_by, IsAsk};
+ghost use Rattle.tl_lay.specs.Inputs.{IsTaskInRange};
 ghost use Rattle.tl_program.specs.declared.status.Status.TheVariants as statuses;
+ghost use Rattle.tl_program.specs.Accepts.{AcceptsSlim, AcceptsTidy};
 ghost use Rattle.tl_program.specs.Alike.{ChecksAlike, LowestAlike, RefusalsAlike, TidyAlike};
+ghost use Rattle.tl_program.specs.Answered.{LaysFile, NarrowsFile, TidiesFile};
+ghost use Rattle.tl_program.specs.Asks.{input_name};
 ghost use Rattle.tl_program.specs.Change.{between};
 ghost use Rattle.tl_program.specs.Complete.{AcceptsLaid, IsAcceptedSo, IsComplete, IsRefusedSo, IsRejectedSo};
-ghost use Rattle.tl_program.specs.Narrowest.{AcceptsSlim, FindsWidth, HoldsNone, RefusesSlim, StoresBetween};
-ghost use Rattle.tl_program.specs.Narrowest.{StoresNarrowest};
+ghost use Rattle.tl_program.specs.Complete.{FindsTidy, FindsWidth, RefusesSlim, RefusesTidy};
 ghost use Rattle.tl_program.specs.Headline.{Ends};
-ghost use Rattle.tl_program.specs.Lowest.{FitsNone, StoresBounded, StoresLowest};
 ghost use Rattle.tl_program.specs.Messages.{status_number};
-ghost use Rattle.tl_program.specs.ReadFaults.{FailsToRead, IsReadFault};
+ghost use Rattle.tl_program.specs.ReadFaults.{FailsToLoad, FailsToRead, IsReadFault};
 ghost use Rattle.tl_program.specs.Tasks.{slim_task, task_of};
-ghost use Rattle.tl_program.specs.Tidiest.{AcceptsTidy, FindsTidy, RefusesTidy, StoresTidy, StoresUntidy, TidyFitsNone};
-ghost use Rattle.tl_program.specs.inner.Steps.{IsTaskInRange};
+ghost use Rattle.tl_program.specs.inner.Steps.{EndsUnread};
 
-use crate::check::{check_table, judge_files};
-use crate::input::{Input, load_input};
-use crate::lay::lay_table;
-use crate::narrow::narrow_table;
+use crate::answers::deliver_result;
+use crate::check::checked;
+use crate::input::load;
+use crate::names::input_name;
 use crate::output::{deliver, print};
 use crate::report::Report;
 use crate::status::Status;
-use crate::summary::demonstration;
-use crate::task::Task;
-use crate::tidy::tidy_table;
+use crate::task::{task_of, task_on};
 use std::alloc::Global;
 use std::thread::Threads;
-use tl_base::{Desk, Gate, MAX_PAGE_WIDTH};
+use tl_base::{Desk, Gate, List, MAX_FILE_BYTES, MAX_PAGE_WIDTH};
 use tl_command::{Ask, Command};
-use tl_form::{all_counts_rise, budget_closes, counts_exist, counts_rise};
-use tl_narrow::{kept_has_slimmest, met_is_slimmest, slimmest_is_no_less};
+use tl_lay::{
+    demonstrate, laid_is_lowest, lay, narrow, narrowed_is_narrowest, tidied_is_tidiest, tidy,
+};
+use tl_narrow::met_is_slimmest;
 
 /// Carries out the arguments of the command line over the desk, and returns the exit status; where memory
 /// runs out that is 9. What workers search or judge at one time passes the gate, piece by piece, once before it
@@ -46,15 +48,9 @@ pub fn run<R: Threads + Sync, D: Desk, G: Gate>(
     desk: &mut D,
     gate: &G,
 ) -> u8
-    ensures lowest { StoresLowest (map string_bytes words.now) (between D.Desk desk.old desk.new) result }
-    ensures bounded { StoresBounded (map string_bytes words.now) (between D.Desk desk.old desk.new) result }
-    ensures narrow { FitsNone (map string_bytes words.now) (between D.Desk desk.old desk.new) result }
-    ensures narrowest { StoresNarrowest (map string_bytes words.now) (between D.Desk desk.old desk.new) result }
-    ensures between { StoresBetween (map string_bytes words.now) (between D.Desk desk.old desk.new) result }
-    ensures too_tall { HoldsNone (map string_bytes words.now) (between D.Desk desk.old desk.new) result }
-    ensures tidy { StoresTidy (map string_bytes words.now) (between D.Desk desk.old desk.new) result }
-    ensures untidy { StoresUntidy (map string_bytes words.now) (between D.Desk desk.old desk.new) result }
-    ensures tidy_narrow { TidyFitsNone (map string_bytes words.now) (between D.Desk desk.old desk.new) result }
+    ensures lays { LaysFile (map string_bytes words.now) (between D.Desk desk.old desk.new) result }
+    ensures narrows { NarrowsFile (map string_bytes words.now) (between D.Desk desk.old desk.new) result }
+    ensures tidies { TidiesFile (map string_bytes words.now) (between D.Desk desk.old desk.new) result }
     ensures ends { Ends (map string_bytes words.now) (between D.Desk desk.old desk.new) result }
     ensures read_fault { IsReadFault D.Desk desk.old desk.new (map string_bytes words.now) result }
     ensures complete { IsComplete (map string_bytes words.now) (between D.Desk desk.old desk.new) result }
@@ -73,13 +69,10 @@ pub fn run<R: Threads + Sync, D: Desk, G: Gate>(
     ensures tidy_alike { TidyAlike (map string_bytes words.now) (between D.Desk desk.old desk.new) result }
     ensures lowest_alike { LowestAlike (map string_bytes words.now) (between D.Desk desk.old desk.new) result }
 {
+    laid_is_lowest();
+    narrowed_is_narrowest();
+    tidied_is_tidiest();
     met_is_slimmest();
-    slimmest_is_no_less();
-    kept_has_slimmest();
-    budget_closes();
-    counts_exist();
-    counts_rise();
-    all_counts_rise();
     carry_out(rt, alloc, words, desk, gate).number()
 }
 
@@ -103,11 +96,11 @@ fn carry_out<R: Threads + Sync, D: Desk, G: Gate>(
         Command::Narrow => narrow_file(rt, alloc, &ask, desk, gate),
         Command::Tidy => tidy_file(rt, alloc, &ask, desk, gate),
         Command::Check => check_file(rt, alloc, &ask, desk, gate),
-        Command::Demo => demonstrate(rt, alloc, &ask, desk, gate),
+        Command::Demo => demonstrate_table(rt, alloc, &ask, desk, gate),
     }
 }
 
-/// Reads the file, and lays out its table.
+/// Lays out the table of the file.
 fn lay_file<R: Threads + Sync, D: Desk, G: Gate>(
     rt: &R,
     alloc: Global,
@@ -122,17 +115,17 @@ fn lay_file<R: Threads + Sync, D: Desk, G: Gate>(
         (between D.Desk desk.old desk.new) (status_number result) }
     ensures read_fault { result ≡ statuses.ReadFault → FailsToRead D.Desk desk.old desk.new (asked_by ask.now) }
 {
-    let task = Task::of(ask);
-    match load_input(alloc, ask, &task, desk) {
-        Ok(Input::Table { table, budget }) => {
-            lay_table(rt, alloc, ask, &task, &table, budget, desk, gate)
+    let task = task_of(ask);
+    match load_input(alloc, ask, desk) {
+        Ok(bytes) => {
+            let answer = lay(rt, alloc, &task, bytes.as_slice(), gate);
+            deliver_result(alloc, ask, desk, answer)
         }
-        Ok(Input::Reported(report)) => deliver(alloc, desk, report, &[]),
-        Err(_) => Status::Memory,
+        Err(status) => status,
     }
 }
 
-/// Reads the file, and looks for the narrowest page of its table that has at most so many lines.
+/// Looks for the narrowest page of the table of the file that has at most so many lines.
 fn narrow_file<R: Threads + Sync, D: Desk, G: Gate>(
     rt: &R,
     alloc: Global,
@@ -148,17 +141,17 @@ fn narrow_file<R: Threads + Sync, D: Desk, G: Gate>(
         (between D.Desk desk.old desk.new) (status_number result) }
     ensures read_fault { result ≡ statuses.ReadFault → FailsToRead D.Desk desk.old desk.new (asked_by ask.now) }
 {
-    let task = Task::on_page(ask, MAX_PAGE_WIDTH);
-    match load_input(alloc, ask, &task, desk) {
-        Ok(Input::Table { table, budget }) => {
-            narrow_table(rt, alloc, ask, &task, &table, budget, desk, gate)
+    let task = task_on(ask, MAX_PAGE_WIDTH);
+    match load_input(alloc, ask, desk) {
+        Ok(bytes) => {
+            let answer = narrow(rt, alloc, &task, ask.number, bytes.as_slice(), gate);
+            deliver_result(alloc, ask, desk, answer)
         }
-        Ok(Input::Reported(report)) => deliver(alloc, desk, report, &[]),
-        Err(_) => Status::Memory,
+        Err(status) => status,
     }
 }
 
-/// Reads the file, and lays its table out as low and then as narrow as can be.
+/// Lays out the table of the file as low and then as narrow as can be.
 fn tidy_file<R: Threads + Sync, D: Desk, G: Gate>(
     rt: &R,
     alloc: Global,
@@ -173,17 +166,17 @@ fn tidy_file<R: Threads + Sync, D: Desk, G: Gate>(
         (between D.Desk desk.old desk.new) (status_number result) }
     ensures read_fault { result ≡ statuses.ReadFault → FailsToRead D.Desk desk.old desk.new (asked_by ask.now) }
 {
-    let task = Task::of(ask);
-    match load_input(alloc, ask, &task, desk) {
-        Ok(Input::Table { table, budget }) => {
-            tidy_table(rt, alloc, ask, &task, &table, budget, desk, gate)
+    let task = task_of(ask);
+    match load_input(alloc, ask, desk) {
+        Ok(bytes) => {
+            let answer = tidy(rt, alloc, &task, bytes.as_slice(), gate);
+            deliver_result(alloc, ask, desk, answer)
         }
-        Ok(Input::Reported(report)) => deliver(alloc, desk, report, &[]),
-        Err(_) => Status::Memory,
+        Err(status) => status,
     }
 }
 
-/// Reads the file, and judges the certificate of its table. Two workers read both at one time.
+/// Judges the certificate of the table of the file.
 fn check_file<R: Threads + Sync, D: Desk, G: Gate>(
     rt: &R,
     alloc: Global,
@@ -198,44 +191,39 @@ fn check_file<R: Threads + Sync, D: Desk, G: Gate>(
         (between D.Desk desk.old desk.new) (status_number result) }
     ensures read_fault { result ≡ statuses.ReadFault → FailsToRead D.Desk desk.old desk.new (asked_by ask.now) }
 {
-    let task = Task::of(ask);
-    if task.workers > 1 {
-        return check_at_once(rt, alloc, ask, &task, desk, gate);
-    }
-    match load_input(alloc, ask, &task, desk) {
-        Ok(Input::Table { table, budget }) => {
-            check_table(rt, alloc, ask, &task, &table, budget, desk, gate)
-        }
-        Ok(Input::Reported(report)) => deliver(alloc, desk, report, &[]),
-        Err(_) => Status::Memory,
+    let task = task_of(ask);
+    match load_input(alloc, ask, desk) {
+        Ok(bytes) => match checked(rt, alloc, ask, &task, bytes.as_slice(), desk, gate) {
+            Ok(report) => deliver(alloc, desk, report, &[]),
+            Err(_) => Status::Memory,
+        },
+        Err(status) => status,
     }
 }
 
-/// Loads the file and the certificate of its table, judges it, and prints what it shows or why it is rejected.
-fn check_at_once<R: Threads + Sync, D: Desk, G: Gate>(
-    rt: &R,
-    alloc: Global,
-    ask: &Ask<'_>,
-    task: &Task,
-    desk: &mut D,
-    gate: &G,
-) -> Status
-    requires command { ask.now.command ≡ commands.Check }
+/// Loads the file of the command that is read. Where it cannot be loaded, the status with which the program ends.
+fn load_input<D: Desk>(alloc: Global, ask: &Ask<'_>, desk: &mut D) -> Result<List<u8>, Status>
     requires names { 2 ≤ length ask.now.names.now }
-    requires task { task.now ≡ task_of (asked_by ask.now) }
-    requires range { IsTaskInRange task.now }
-    ensures ends { (words : List (List ℕ)) → IsAsk words (asked_by ask.now) → Ends words
-        (between D.Desk desk.old desk.new) (status_number result) }
-    ensures read_fault { result ≡ statuses.ReadFault → FailsToRead D.Desk desk.old desk.new (asked_by ask.now) }
+    ensures short { IfOk result (λ bytes. length bytes ≤ MAX_FILE_BYTES + 1) }
+    ensures read { IfOk result (λ bytes. IfSome (D.files desk.old)
+        (λ held. IsReadFrom held (input_name (asked_by ask.now)) MAX_FILE_BYTES bytes)) }
+    ensures counts { IfOk result (λ _. D.load_faults desk.new ≡ D.load_faults desk.old) }
+    ensures files_stay { IfOk result (λ _. D.files desk.new ≡ D.files desk.old) }
+    ensures said_stays { IfOk result (λ _. D.said desk.new ≡ D.said desk.old) }
+    ensures writes_stay { IfOk result (λ _. D.write_faults desk.new ≡ D.write_faults desk.old) }
+    ensures ends { IfErr result (EndsUnread (between D.Desk desk.old desk.new)) }
+    ensures fault { IfErr result (λ status. status ≡ statuses.ReadFault
+        → FailsToLoad D.Desk desk.old desk.new (input_name (asked_by ask.now))) }
 {
-    match judge_files(rt, alloc, ask, task, desk, gate) {
-        Ok(report) => deliver(alloc, desk, report, &[]),
-        Err(_) => Status::Memory,
+    match load(desk, input_name(ask), MAX_FILE_BYTES as u32) {
+        Ok(Some(bytes)) => Ok(bytes),
+        Ok(None) => Err(deliver(alloc, desk, Report::ReadFault, &[])),
+        Err(_) => Err(Status::Memory),
     }
 }
 
 /// Lays out the table of this number, checks its certificate, and prints its numbers.
-fn demonstrate<R: Threads + Sync, D: Desk, G: Gate>(
+fn demonstrate_table<R: Threads + Sync, D: Desk, G: Gate>(
     rt: &R,
     alloc: Global,
     ask: &Ask<'_>,
@@ -247,7 +235,7 @@ fn demonstrate<R: Threads + Sync, D: Desk, G: Gate>(
         (between D.Desk desk.old desk.new) (status_number result) }
     ensures read_fault { result ≡ statuses.ReadFault → FailsToRead D.Desk desk.old desk.new (asked_by ask.now) }
 {
-    match demonstration(rt, alloc, ask.number, gate) {
+    match demonstrate(rt, alloc, ask.number, gate) {
         Ok(summary) => deliver(alloc, desk, Report::Summary(summary), &[]),
         Err(_) => Status::Memory,
     }

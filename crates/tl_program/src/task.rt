@@ -9,25 +9,8 @@ use crate::names::certificate_name;
 use tl_base::{Breaking, Style};
 use tl_command::{Ask, Options, Search};
 use tl_floors::Floors;
+use tl_lay::Task;
 use tl_read::Source;
-
-/// What is asked of a table.
-#[derive(Clone, Copy)]
-pub struct Task {
-    /// The width of the page in columns, from 1 to `MAX_PAGE_WIDTH`, or the most that it may be.
-    pub width: u32,
-    pub style: Style,
-    pub source: Source,
-    /// How many cuts each search may make, up to `MAX_BUDGET`.
-    pub budget: Option<u32>,
-    pub search: Search,
-    /// How many workers there are, from 1 to `MAX_WORKERS`.
-    pub workers: u32,
-    /// Whether the page is HTML.
-    pub html: bool,
-    /// Whether a certificate is wanted.
-    pub certified: bool,
-}
 
 /// What kind of file the table is read from.
 fn source_of(options: &Options) -> Source
@@ -46,28 +29,26 @@ fn source_of(options: &Options) -> Source
     }
 }
 
-impl Task {
-    /// What is asked of a table: the number is the width of its page.
-    pub fn of(ask: &Ask<'_>) -> Task
-        ensures { result ≡ task_of (asked_by ask.now) }
-    {
-        Task::on_page(ask, ask.number)
-    }
+/// What is asked of a table: the number is the width of its page.
+pub fn task_of(ask: &Ask<'_>) -> Task
+    ensures { result ≡ task_of (asked_by ask.now) }
+{
+    task_on(ask, ask.number)
+}
 
-    /// What is asked of a table, for pages of so many columns at most.
-    pub fn on_page(ask: &Ask<'_>, width: u32) -> Task
-        ensures { result ≡ task_on width (asked_by ask.now) }
-    {
-        let options = &ask.options;
-        Task {
-            width,
-            style: options.style.unwrap_or(Style::Plain),
-            source: source_of(options),
-            budget: options.budget,
-            search: options.search.unwrap_or(Search::Best),
-            workers: options.workers.unwrap_or(1),
-            html: options.html,
-            certified: certificate_name(ask).is_some(),
-        }
+/// What is asked of a table, for pages of so many columns at most.
+pub fn task_on(ask: &Ask<'_>, width: u32) -> Task
+    ensures { result ≡ task_on width (asked_by ask.now) }
+{
+    let options = &ask.options;
+    Task {
+        width,
+        style: options.style.unwrap_or(Style::Plain),
+        source: source_of(options),
+        budget: options.budget,
+        search: options.search.unwrap_or(Search::Best),
+        workers: options.workers.unwrap_or(1),
+        html: options.html,
+        certified: certificate_name(ask).is_some(),
     }
 }

@@ -86,5 +86,5 @@ pub returns-in-Demo-clause-read_fault : goal.returns-in-Demo-clause-read_fault
 returns-in-Demo-clause-read_fault g c = λ same. (
   asked_by c.in-Some.ask,
   c.in-Some.ensures.ask,
-  c.demonstrate.ensures.read_fault (fault_of_number c.demonstrate.result same),
+  c.demonstrate_table.ensures.read_fault (fault_of_number c.demonstrate_table.result same),
 )

@@ -1,58 +1,33 @@
--- What the file gives is laid out and trimmed, or reported.
-use Rattle.std.proofs.Common.{inl, refl, ◌∙◌, ap}
+-- What the call answers for the bytes of the file is delivered.
+use Rattle.std.proofs.Common.{List, ℕ, subst}
+use Rattle.std.specs.Prelude.{IfOk}
 use Rattle.tl_command.specs.declared.command.Command.TheVariants.{Tidy}
 use Rattle.tl_command.specs.Ask.{asked_by}
-use Rattle.tl_program.specs.declared.input.Input.TheVariants as inputs
-use Rattle.tl_program.specs.Asks.{input_name}
+use Rattle.tl_lay.specs.declared.task.Task.{Task}
+use Rattle.tl_lay.specs.Tidied.{IsTidied, IsTidiedAs}
 use Rattle.tl_program.specs.Change.{between}
-use Rattle.tl_program.specs.Deliveries.{reported}
-use Rattle.tl_program.specs.Tidied.{IsTidied}
 use Rattle.tl_program.specs.Tasks.{task_of}
 use Rattle.tl_program.proofs.Asking.{comes_of}
-use Rattle.tl_program.proofs.Loading.{follows_load, loaded_as, reported_ends, went_on_ends}
-use Rattle.tl_program.proofs.ReadFaults.{delivered_fault, fails_within, own_no_fault, tidied_no_fault}
+use Rattle.tl_program.proofs.Loading.{follows_load, result_ends}
+use Rattle.tl_program.proofs.ReadFaults.{result_no_fault}
 use Rattle.tl_program.proofs.running.tidy_file.Goals as goal
 
-pub returns-in-Ok-Table-clause-ends : goal.returns-in-Ok-Table-clause-ends
-returns-in-Ok-Table-clause-ends g c = λ words is.
+pub returns-in-Ok-clause-ends : goal.returns-in-Ok-clause-ends
+returns-in-Ok-clause-ends g c = λ words is.
     let asked = asked_by c.args.ask.now in
-    let change = between g.D.Desk c.args.desk.now c.tidy_table.new.desk in
-    let second = between g.D.Desk c.load_input.new.desk c.tidy_table.new.desk in
-    went_on_ends words change second asked.number asked (IsTidied asked) c.in-Ok-Table.field-0 c.tidy_table.result
+    let change = between g.D.Desk c.args.desk.now c.deliver_result.new.desk in
+    let second = between g.D.Desk c.load_input.new.desk c.deliver_result.new.desk in
+    result_ends words change second c.deliver_result.result asked.number asked (IsTidiedAs (task_of asked)) c.in-Ok.bytes
+    c.tidy-answer.result
+    (follows_load g.D.Desk c.args.desk.now c.load_input.new.desk c.deliver_result.new.desk c.in-Ok.ensures.files_stay
+    c.in-Ok.ensures.said_stays c.in-Ok.ensures.writes_stay)
+    (record { short = c.in-Ok.ensures.short; read = c.in-Ok.ensures.read })
     (λ delivery. comes_of words change Tidy asked delivery c.requires.command is)
-    (follows_load g.D.Desk c.args.desk.now c.load_input.new.desk c.tidy_table.new.desk c.load_input.ensures.files_stay
-    c.load_input.ensures.said_stays c.load_input.ensures.writes_stay)
-    (loaded_as c.of-task.result (task_of asked) asked (g.D.Desk.files c.args.desk.now)
-    (g.D.Desk.load_faults c.args.desk.now) (g.D.Desk.load_faults c.load_input.new.desk) c.in-Ok-Table.field-0 c.of-task.ensures
-    c.in-Ok-Table.ensures.loaded) c.in-Ok-Table.table c.in-Ok-Table.budget c.in-Ok-Table.field-0-is
-    c.tidy_table.ensures
+    (subst (λ (task : Task). IfOk c.tidy-answer.result (IsTidied task c.in-Ok.bytes)) c.task_of-task.ensures
+    (subst (λ (bytes : List ℕ). IfOk c.tidy-answer.result (IsTidied c.task_of-task.result bytes)) c.as_slice.ensures
+    c.tidy-answer.ensures.tidied)) c.deliver_result.ensures.delivered
 
-pub returns-in-Ok-Reported-clause-ends : goal.returns-in-Ok-Reported-clause-ends
-returns-in-Ok-Reported-clause-ends g c = λ words is.
-    let asked = asked_by c.args.ask.now in
-    let change = between g.D.Desk c.args.desk.now c.deliver.new.desk in
-    let second = between g.D.Desk c.load_input.new.desk c.deliver.new.desk in
-    reported_ends words change second asked.number asked (IsTidied asked) c.in-Ok-Reported.field-0 c.deliver.result
-    (λ delivery. comes_of words change Tidy asked delivery c.requires.command is)
-    (follows_load g.D.Desk c.args.desk.now c.load_input.new.desk c.deliver.new.desk c.load_input.ensures.files_stay
-    c.load_input.ensures.said_stays c.load_input.ensures.writes_stay)
-    (loaded_as c.of-task.result (task_of asked) asked (g.D.Desk.files c.args.desk.now)
-    (g.D.Desk.load_faults c.args.desk.now) (g.D.Desk.load_faults c.load_input.new.desk) c.in-Ok-Reported.field-0 c.of-task.ensures
-    c.in-Ok-Reported.ensures.loaded) c.in-Ok-Reported.report c.in-Ok-Reported.field-0-is c.deliver.ensures.loads_stay
-    c.deliver.ensures.delivered
-
-pub returns-in-Ok-Reported-clause-read_fault : goal.returns-in-Ok-Reported-clause-read_fault
-returns-in-Ok-Reported-clause-read_fault g c = λ same.
-    let asked = asked_by c.args.ask.now in
-    let change = between g.D.Desk c.load_input.new.desk c.deliver.new.desk in
-    let fault = delivered_fault c.deliver.result change (reported c.in-Ok-Reported.report) c.deliver.ensures.delivered same in
-    inl (fails_within g.D.Desk c.args.desk.now c.args.desk.now c.load_input.new.desk c.deliver.new.desk (input_name asked) refl refl
-    refl c.deliver.ensures.loads_stay
-    (c.in-Ok-Reported.ensures.fault (c.in-Ok-Reported.field-0-is ∙ ap inputs.Reported fault)))
-
-pub returns-in-Ok-Table-clause-read_fault : goal.returns-in-Ok-Table-clause-read_fault
-returns-in-Ok-Table-clause-read_fault g c = λ same.
-    let asked = asked_by c.args.ask.now in
-    let change = between g.D.Desk c.load_input.new.desk c.tidy_table.new.desk in
-    absurd (own_no_fault (IsTidied asked c.in-Ok-Table.table) (tidied_no_fault asked c.in-Ok-Table.table) c.tidy_table.result change
-    c.tidy_table.ensures same)
+pub returns-in-Ok-clause-read_fault : goal.returns-in-Ok-clause-read_fault
+returns-in-Ok-clause-read_fault g c = λ same.
+    absurd (result_no_fault (asked_by c.args.ask.now) c.tidy-answer.result c.deliver_result.result
+    (between g.D.Desk c.load_input.new.desk c.deliver_result.new.desk) c.deliver_result.ensures.delivered same)

@@ -1,0 +1,21 @@
+pub mod Answering
+pub mod ChosenLaid
+mod Examples
+pub mod FlatTables
+pub mod Inputs
+pub mod Judging
+pub mod LastWidths
+pub mod Laying
+pub mod LowestPages
+pub mod NarrowestPages
+pub mod OneAnswer
+pub mod OneJudgement
+pub mod OnePage
+pub mod OneTidyPage
+pub mod OpenCounts
+pub mod Readable
+pub mod SameBudgets
+pub mod SlimPages
+pub mod Summing
+pub mod TidiestPages
+pub mod Tidying

@@ -1,0 +1,14 @@
+pub mod Answers
+pub mod Budgets
+pub mod Checks
+pub mod Demonstration
+pub mod Flat
+pub mod Inputs
+pub mod Laws
+pub mod Lowest
+pub mod Narrowest
+pub mod Rejections
+pub mod Slimmed
+pub mod Tidied
+pub mod Tidiest
+pub mod inner

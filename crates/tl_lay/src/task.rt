@@ -1,0 +1,24 @@
+//! What is asked of a table.
+
+use tl_base::Style;
+use tl_command::Search;
+use tl_read::Source;
+
+/// What is asked of a table.
+#[derive(Clone, Copy)]
+pub struct Task {
+    /// The width of the page in columns, from 1 to `MAX_PAGE_WIDTH`, or the most that it may be.
+    pub width: u32,
+    pub style: Style,
+    pub source: Source,
+    /// How many cuts each search may make, up to `MAX_BUDGET`. Without one it is [`crate::DEFAULT_BUDGET`], or
+    /// less where there are many nested tables.
+    pub budget: Option<u32>,
+    pub search: Search,
+    /// How many workers there are, from 1 to `MAX_WORKERS`.
+    pub workers: u32,
+    /// Whether the page is HTML.
+    pub html: bool,
+    /// Whether texts of certificates are wanted.
+    pub certified: bool,
+}
