@@ -103,3 +103,7 @@ none_of_one bytes page text says = (says.0, says.3)
 none_of_none : (bytes page : List ℕ) (text : _) → Lays seven bytes (answers.Bounded 2 1 7 page text) →
     (table : Table) × HasNoneBelow seven table 1
 none_of_none bytes page text says = (says.0, says.3)
+
+-- `lay` never answers with the narrowest page, so a status that such a page has too means the lowest one
+never_slim : (bytes : List ℕ) → Lays seven bytes (answers.Slimmest 5 3 nothing) → ⊥
+never_slim bytes says = says

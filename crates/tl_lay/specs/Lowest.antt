@@ -45,8 +45,8 @@ FitsNone task table least text = IsLeastWidth table task.style least × ShowsCha
     × ((height : ℕ) (layout : Layout) → Fits table task.style task.width height layout → ⊥)
 
 -- what each answer of `lay` says of the bytes. Lowest: no layout is lower than this page. Bounded: none is below the lower bound,
--- and the budget of each search was below the count of what there is to search. Narrow: none fits. Why bytes are refused, and that
--- there is no other answer, is said by `IsLaid`
+-- and the budget of each search was below the count of what there is to search. Narrow: none fits. There is no other answer but a
+-- refusal, of which `IsLaid` says why
 abbrev pub Lays : Task → List ℕ → Answer → Type 0
 Lays task bytes (answers.Lowest height width page text) = (table : Table) × IsTableIn task bytes table
     × IsPageOf task table task.width height width page × HasNoneBelow task table height
@@ -55,4 +55,5 @@ Lays task bytes (answers.Bounded height lower width page text) = (table : Table)
     × IsBelowCounts table task.style task.width (budget_in task table)
 Lays task bytes (answers.Narrow least width text) = (table : Table) × IsTableIn task bytes table × (width ≡ task.width)
     × FitsNone task table least text
-Lays task bytes other = ⊤
+Lays task bytes (answers.Refused refusal) = ⊤
+Lays task bytes other = ⊥

@@ -33,7 +33,7 @@ pub record HasWiderPage (task : Task) (table : Table) (height : ℕ) (evidence :
 -- what each answer of `narrow` says of the bytes, where at most `most` lines are asked for. Slimmest: no page that is narrower
 -- than this one holds the table. Between: the narrowest page has at least so many columns, if there is one, and at most as many as
 -- the page that was found, if one was; the budget of each search was below the count of what there is to search on the widest
--- page. TooTall: no page holds it. Why bytes are refused, and that there is no other answer, is said by `IsNarrowed`
+-- page. TooTall: no page holds it. There is no other answer but a refusal, of which `IsNarrowed` says why
 abbrev pub Narrows : Task → ℕ → List ℕ → Answer → Type 0
 Narrows task most bytes (answers.Slimmest width height evidence) = (height ≡ most) × (table : Table)
     × IsTableIn task bytes table × HasLowPage task table most width evidence × IsNarrowest task table most width
@@ -43,4 +43,5 @@ Narrows task most bytes (answers.Between width least evidence) = (table : Table)
     × IsBelowCounts table task.style task.width (budget_in task table)
 Narrows task most bytes (answers.TooTall height evidence) = (height ≡ most) × (table : Table) × IsTableIn task bytes table
     × ((width : ℕ) → IsNarrowest task table most width → ⊥)
-Narrows task most bytes other = ⊤
+Narrows task most bytes (answers.Refused refusal) = ⊤
+Narrows task most bytes other = ⊥

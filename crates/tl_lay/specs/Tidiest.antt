@@ -71,8 +71,8 @@ pub record LeavesOpen (task : Task) (table : Table) (height : ℕ) (kept : Certi
 
 -- what each answer of `tidy` says of the bytes. Tidy: the page is the lowest, and the narrowest that is as low. Bounded: its height
 -- is open, and Wider: its width is, between two bounds; Unchosen: it is the lowest and the narrowest, and the choice among its
--- layouts is open; then the budget was below the counts. Narrow: no layout fits. Why bytes are refused, and that there is no other
--- answer, is said by `IsTidied`
+-- layouts is open; then the budget was below the counts. Narrow: no layout fits. There is no other answer but a refusal, of
+-- which `IsTidied` says why
 abbrev pub Tidies : Task → List ℕ → Answer → Type 0
 Tidies task bytes (answers.Tidy height width evidence) = (table : Table) × IsTableIn task bytes table
     × HasLowestOn task table width height evidence × IsNarrowest task table height width
@@ -90,4 +90,5 @@ Tidies task bytes (answers.Unchosen evidence) = (table : Table) × (height : ℕ
     × IsBelowFrom task table width
 Tidies task bytes (answers.Narrow least width text) = (table : Table) × IsTableIn task bytes table × (width ≡ task.width)
     × FitsNone task table least text
-Tidies task bytes other = ⊤
+Tidies task bytes (answers.Refused refusal) = ⊤
+Tidies task bytes other = ⊥
