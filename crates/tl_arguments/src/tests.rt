@@ -1,0 +1,77 @@
+//! Command lines, and what commands get of them.
+
+use crate::arrange;
+use std::alloc::{AllocError, Global};
+use std::test::Fail;
+
+/// Command lines beside what the command gets.
+const LINES: &[(&str, &str)] = &[
+    ("", ""),
+    ("demo 7", "demo 7"),
+    ("lay 7 t p c", "lay 7 t p c"),
+    (
+        "lay 7 t p --style frame --csv",
+        "lay 7 t p --style frame --csv",
+    ),
+    (
+        "--csv --style frame lay 7 t p",
+        "lay 7 t p --csv --style frame",
+    ),
+    (
+        "lay --least 1,2 7 --csv t --break any p",
+        "lay 7 t p --least 1,2 --csv --break any",
+    ),
+    (
+        "lay 7 --budget 0 t --workers 2 p --solver best",
+        "lay 7 t p --budget 0 --workers 2 --solver best",
+    ),
+    (
+        "narrow 7 t --head p --html c --csv l s",
+        "narrow 7 t p c l s --head --html --csv",
+    ),
+    ("lay 7 t p --", "lay 7 t p"),
+    ("-- lay 7 t p", "lay 7 t p"),
+    ("lay 7 --csv -- t p", "lay 7 t p --csv"),
+    ("lay 7 -- --csv -- --style", "lay 7 ./--csv ./-- ./--style"),
+    ("lay 7 t p -html -- -c", "lay 7 t p -html -c"),
+    ("lay 7 - - -", "lay 7 /dev/stdin /dev/stdout /dev/stdout"),
+    ("lay 7 -- - p", "lay 7 /dev/stdin p"),
+    ("lay 7 ./- p", "lay 7 ./- p"),
+    (
+        "narrow 7 t p - - -",
+        "narrow 7 t p /dev/stdout /dev/stdout /dev/stdout",
+    ),
+    ("check 7 - c", "check 7 /dev/stdin c"),
+    ("check --csv 7 t -", "check 7 t /dev/stdin --csv"),
+    ("- - t p", "- - t p"),
+    ("lay 7 t  --html", "lay 7 t  --html"),
+    ("lay 7 t p --style", "lay 7 t p --style"),
+    ("lay 7 t p --style -- --csv", "lay 7 t p --style -- --csv"),
+    ("lay 7 t p --stlye frame", "lay 7 t p frame --stlye"),
+    ("lay 7 t --html", "--html lay 7 t"),
+    ("demo --csv 7", "--csv demo 7"),
+];
+
+/// The arguments of a command line, each separated by one space from the next.
+fn arguments(alloc: Global, line: &str) -> Result<Vec<String>, AllocError> {
+    let mut arguments = Vec::new(alloc);
+    if line.is_empty() {
+        return Ok(arguments);
+    }
+    for argument in line.split(' ') {
+        arguments.push(String::from_str(alloc, argument)?)?;
+    }
+    Ok(arguments)
+}
+
+#[test]
+fn commands_get_names_and_then_options(rt: HostRuntime) -> Result<(), Fail> {
+    let alloc = rt.alloc();
+    for (line, wanted) in LINES {
+        let words = arguments(alloc, line)?;
+        let arranged = arrange(alloc, words.as_slice())?;
+        let wanted = arguments(alloc, wanted)?;
+        assert_eq!(rt; arranged.as_slice(), wanted.as_slice());
+    }
+    Ok(())
+}
