@@ -43,7 +43,7 @@ make_checkout() {
 readonly PROVED=$'libraries tablelayout 9\nrun tablelayout' ALL=$'lib high\nlib low\nrun tablelayout'
 
 "$top/tablelayout" help | awk 'length > 79' | expect_text "" "lines of the help above 79 columns"
-for words in "" --help; do
+for words in "" --help -h; do
     # shellcheck disable=SC2086
     "$top/tablelayout" $words | cmp - <("$top/tablelayout" help) || touch "$failed"
 done
@@ -53,7 +53,8 @@ make_checkout judged
 # Its libraries are proved by another script that only says what it is asked for.
 printf '#!/bin/sh\necho "libraries $*" >>"%s/asked"\n' "$room" >"$checkout/tools/prove_libraries.py"
 for words in lya lay "lay 9" "lay 9 in" "narrow 9 in" "tidy 9 in" "check 9 in" demo "demo 1 2" "preview 9" preview \
-    install "install a b" uninstall -h in.html; do
+    install "install a b" uninstall in.html "lay 9 in --csv" "tidy 9 --in page" "lay 9 in --style frame" "--csv lay 9 in" \
+    "--csv show in" "--style lay 9 in page" "-- lay 9 in" --; do
     # shellcheck disable=SC2086
     all_of "$checkout/tablelayout" $words | expect_text $'usage\nstatus 2' "by $words"
 done
@@ -89,7 +90,8 @@ asked | expect_text "" "by rt for less and git"
 # What may be one is for the program.
 told_by "$checkout/tablelayout" lay 9 in page | expect_text $'program lay 9 in page\nstatus 0' "by lay"
 asked | expect_text "$PROVED" "by rt for a first lay"
-for words in "lay 9 in page --style" "narrow 9 in page" "tidy 9 --in page" "check 9 in cert" "demo x"; do
+for words in "lay 9 in page --style" "narrow 9 in page" "check 9 in cert" "demo x" "tidy 9 -- --in page" "-- demo 1" \
+    "--csv --style frame lay 9 in page" "lay --least 5 9 --csv in --stlye page" "lay 9 - -"; do
     # shellcheck disable=SC2086
     all_of "$checkout/tablelayout" $words | expect_text "program $words"$'\nstatus 0' "by $words"
 done

@@ -1,5 +1,5 @@
-//! The program: it carries out the arguments of its command line over the files of the system and standard
-//! output. Its one contract is that of `tl_program::run`, whose status it ends with.
+//! The program: it carries out the arguments of its command line, in the order in which a command takes them,
+//! over the files of the system and standard output. Its one contract is that of `tl_program::run`, whose status it ends with.
 #![tactic(auto)]
 
 ghost use Rattle.std.specs.Prelude.{◌≡◌, ◌≢◌};
@@ -8,23 +8,63 @@ ghost use Rattle.std.specs.IoError.{error_kind};
 use std::env;
 use std::io::{self, ErrorKind};
 use std::process::ExitCode;
+use tl_arguments::{Question, VERSION, arrange, complaint};
 use tl_base::{NoGate, RealDesk};
 use tl_program::{Status, run};
 
-/// Carries out the arguments of the command line. Where they cannot be had, nothing is printed.
+/// What `--help` prints.
+const HELP: &str = "\
+tablelayout lay WIDTH IN PAGE [CERT] [OPTION ..]
+tablelayout narrow HEIGHT IN PAGE [CERT [LESS [SPENT]]] [OPTION ..]
+tablelayout tidy WIDTH IN PAGE [CERT [LESS [SPENT]]] [OPTION ..]
+tablelayout check WIDTH IN CERT [OPTION ..]
+tablelayout demo NUMBER
+The manual page says what each does, and what the options are.";
+
+/// Carries out the arguments of the command line, or answers what is asked of the program itself. Where
+/// the arguments cannot be had, nothing is printed.
 fn main(rt: HostRuntime) -> ExitCode {
     let alloc = rt.alloc();
-    let status = match arguments(&rt) {
-        Ok(arguments) => run(
-            &rt,
-            alloc,
-            arguments.as_slice(),
-            &mut RealDesk::new(&rt),
-            &NoGate,
-        ),
-        Err(error) => status_without_arguments(&error).number(),
+    let words = match arguments(&rt) {
+        Ok(words) => words,
+        Err(error) => return ExitCode::from(status_without_arguments(&error).number()),
     };
+    if let Some(question) = Question::asked(words.as_slice()) {
+        return ExitCode::from(answer(&rt, question).number());
+    }
+    let Ok(arranged) = arrange(alloc, words.as_slice()) else {
+        return ExitCode::from(Status::Memory.number());
+    };
+    let status = run(
+        &rt,
+        alloc,
+        arranged.as_slice(),
+        &mut RealDesk::new(&rt),
+        &NoGate,
+    );
+    if status == Status::Usage.number() {
+        complain(&rt, words.as_slice());
+    }
     ExitCode::from(status)
+}
+
+/// Prints the answer to what is asked of the program itself.
+fn answer(rt: &impl Print, question: Question) -> Status {
+    let printed = match question {
+        Question::Help => println!(rt; "{HELP}"),
+        Question::Version => println!(rt; "tablelayout {VERSION}"),
+    };
+    match printed {
+        Ok(()) => Status::Lowest,
+        Err(_) => Status::WriteFault,
+    }
+}
+
+/// Says on standard error what is wrong with the arguments. Where that fails, the status says enough.
+fn complain(rt: &(impl Eprint + AllocGlobal), words: &[String]) {
+    if let Ok(text) = complaint(rt.alloc(), words) {
+        let _ = eprintln!(rt; "tablelayout: {text}");
+    }
 }
 
 /// The status where the arguments cannot be had: memory ran out, or there is another cause, such as
