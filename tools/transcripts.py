@@ -83,7 +83,7 @@ def main(documents):
     with tempfile.TemporaryDirectory() as room:
         at = Path(room) / "tree"
         copy_repository(at)
-        if run("./tablelayout lay 0 in page", at) != "usage\n":
+        if not run("./tablelayout lay 0 in page", at).startswith("usage\n"):
             sys.exit("transcripts: the program is missing or older than its sources; rt ci, or a command of ./tablelayout, builds it")
         for document in documents:
             for line, shown, made in blocks(document):
