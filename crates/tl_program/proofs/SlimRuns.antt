@@ -33,7 +33,8 @@ SlimRun asked change status = WentRun asked (reach (slim_task asked)) (IsAnswere
 pub slim_run : (words : List (List ℕ)) (change : Change) (status : ℕ) (asked : Asked) → Ends words change status →
     IsAskOf Narrow words asked → IsSlimStatus status → SlimRun asked change status
 slim_run words change status asked ends is out =
-    went_run words change status Narrow asked (reach (slim_task asked)) (IsAnswered (IsSlimmed (slim_task asked) asked.number) asked) ends is (own_slim status out)
+    went_run words change status Narrow asked (reach (slim_task asked))
+    (IsAnswered (IsSlimmed (slim_task asked) asked.number) asked) ends is (own_slim status out)
     (λ same. slim_apart status 8 out same (λ e. omega (arith, e)) (λ e. omega (arith, e)) (λ e. omega (arith, e)))
     (λ same. slim_apart status 9 out same (λ e. omega (arith, e)) (λ e. omega (arith, e)) (λ e. omega (arith, e)))
     (λ delivery carried. carried)
