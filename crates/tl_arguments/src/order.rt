@@ -52,7 +52,8 @@ impl Side {
 
 /// The arguments as a command takes them: its word, its number and the names of its files, as
 /// `names` spells them, and then its options. Options that stand with too few names come first,
-/// where no command takes them, so that none of them is taken for a name.
+/// where no command takes them, so that none of them is taken for a name. The error says that memory
+/// ran out.
 pub fn arrange(alloc: Global, words: &[String]) -> Result<Vec<String>, AllocError>
     ensures { IfOk result (λ arranged_words. map string_bytes arranged_words.items
         ≡ arranged (map string_bytes words.now)) }

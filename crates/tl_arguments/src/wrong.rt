@@ -27,8 +27,8 @@ const OPTIONS: &[&str] = &[
 /// In how many characters a word may differ from the one that is meant.
 const MOST_DIFFERENCES: usize = 2;
 
-/// What is wrong with arguments that ask for nothing: the first word that is wrong, or what is wrong
-/// with all of them.
+/// What is wrong with arguments that ask for nothing, in one line without its end: the first word that is
+/// wrong, or what is wrong with all of them. The error says that memory ran out.
 pub fn complaint(alloc: Global, words: &[String]) -> Result<String, AllocError> {
     let plain = Side::Names.pick(alloc, words)?;
     let options = Side::Options.pick(alloc, words)?;
