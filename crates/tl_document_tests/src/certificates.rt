@@ -7,13 +7,14 @@ ghost use Rattle.tl_cert.specs.Text.{IsNarrow, IsWritable};
 ghost use Rattle.tl_table.specs.Sound.{IsSound};
 ghost use Rattle.tl_form.specs.Valid.{IsValid};
 
-use crate::documents::{Meeting, table_of};
+use crate::documents::{Meeting, run_by, table_of};
 use std::alloc::{AllocError, Global};
 use std::process::Abort;
 use std::test::Fail;
 use std::thread::Threads;
-use tl_base::{Gate, NoGate, Style};
+use tl_base::{Gate, Style};
 use tl_cert::{Certificate, Claim, read};
+use tl_fan::Run;
 use tl_form::layout;
 use tl_table::{Layout, Table};
 use tl_verify::{Reject, Verdict, verify};
@@ -68,37 +69,24 @@ fn named(
 
 /// What is found of the certificate of this text for the file: a verdict with the layout, or the
 /// first step that fails.
-fn judged<G: Gate>(
-    rt: &(impl Threads + Sync),
-    alloc: Global,
+fn judged<R: Threads + Sync, G: Gate>(
+    run: &Run<'_, R, G>,
     file: &str,
     width: u32,
     budget: u32,
-    workers: u32,
     text: &str,
-    gate: &G,
 ) -> Result<String, Fail>
     requires some { 1 ≤ width }
     requires narrow { width ≤ MAX_PAGE_WIDTH }
     requires cuts { budget ≤ MAX_BUDGET }
-    requires workers { 1 ≤ workers }
 {
+    let alloc = run.alloc;
     let table = table_of(alloc, file)?;
     let Ok(certificate) = read(alloc, text.as_bytes()) else {
         return Err("no certificate".into());
     };
     let style = Style::Plain;
-    if let Err(reject) = verify(
-        rt,
-        alloc,
-        &table,
-        style,
-        width,
-        budget,
-        workers,
-        &certificate,
-        gate,
-    ) {
+    if let Err(reject) = verify(run, &table, style, width, budget, &certificate) {
         return Ok(format!(in alloc; "{reject}")?);
     }
     match certificate.claim {
@@ -219,70 +207,76 @@ fn spelt(alloc: Global, line: &str) -> Result<String, AllocError> {
     text.as_str().replace(alloc, ";", "\n")
 }
 
-/// Compares what so many workers find of each line's certificate with what stands after its arrow.
-fn compare(
-    rt: &(impl Abort + Threads + Sync),
-    alloc: Global,
+/// Compares what is found of each line's certificate with what stands after its arrow.
+fn compare<R: Abort + Threads + Sync, G: Gate>(
+    run: &Run<'_, R, G>,
     lines: &str,
     file: &str,
     width: u32,
     budget: u32,
-    workers: u32,
 ) -> Result<(), Fail>
     requires some { 1 ≤ width }
     requires narrow { width ≤ MAX_PAGE_WIDTH }
     requires cuts { budget ≤ MAX_BUDGET }
-    requires workers { 1 ≤ workers }
 {
     let cases = lines.strip_prefix('\n').ok_or("a case on the first line")?;
     for line in cases.lines() {
         let (input, wanted) = line.split_once(" => ").ok_or("a line without an arrow")?;
-        let text = spelt(alloc, input)?;
-        let found = judged(
-            rt,
-            alloc,
-            file,
-            width,
-            budget,
-            workers,
-            text.as_str(),
-            &NoGate,
-        )?;
-        assert_eq!(rt; found.as_str(), wanted, "{input}");
+        let text = spelt(run.alloc, input)?;
+        let found = judged(run, file, width, budget, text.as_str())?;
+        assert_eq!(run.rt; found.as_str(), wanted, "{input}");
     }
     Ok(())
 }
 
 #[test]
 fn two_columns_are_lowest_and_each_change_is_refused(rt: HostRuntime) -> Result<(), Fail> {
-    compare(&rt, rt.alloc(), TWO_COLUMNS_JUDGED, TWO_COLUMNS, 12, 6, 1)
+    compare(
+        &run_by(&rt, rt.alloc(), 1),
+        TWO_COLUMNS_JUDGED,
+        TWO_COLUMNS,
+        12,
+        6,
+    )
 }
 
 #[test]
 fn a_search_without_a_cut_is_bounded(rt: HostRuntime) -> Result<(), Fail> {
-    compare(&rt, rt.alloc(), NO_CUT, TWO_COLUMNS, 12, 0, 2)
+    compare(&run_by(&rt, rt.alloc(), 2), NO_CUT, TWO_COLUMNS, 12, 0)
 }
 
 #[test]
 fn a_nested_table_has_all_its_sections_in_order(rt: HostRuntime) -> Result<(), Fail> {
-    compare(&rt, rt.alloc(), NESTED_JUDGED, NESTED, 12, 5000, 1)?;
-    compare(&rt, rt.alloc(), NESTED_JUDGED, NESTED, 12, 5000, 2)?;
-    compare(&rt, rt.alloc(), NESTED_JUDGED, NESTED, 12, 5000, 16)
+    compare(&run_by(&rt, rt.alloc(), 1), NESTED_JUDGED, NESTED, 12, 5000)?;
+    compare(&run_by(&rt, rt.alloc(), 2), NESTED_JUDGED, NESTED, 12, 5000)?;
+    compare(
+        &run_by(&rt, rt.alloc(), 16),
+        NESTED_JUDGED,
+        NESTED,
+        12,
+        5000,
+    )
 }
 
 #[test]
 fn lines_that_bound_one_column_prove_four_lines(rt: HostRuntime) -> Result<(), Fail> {
-    compare(&rt, rt.alloc(), FOUR_COLUMNS_JUDGED, FOUR_COLUMNS, 25, 3, 1)
+    compare(
+        &run_by(&rt, rt.alloc(), 1),
+        FOUR_COLUMNS_JUDGED,
+        FOUR_COLUMNS,
+        25,
+        3,
+    )
 }
 
 #[test]
 fn a_chain_is_of_the_table_and_weighs_what_is_claimed(rt: HostRuntime) -> Result<(), Fail> {
-    compare(&rt, rt.alloc(), CHAINS, TWO_WORDS, 11, 5000, 1)
+    compare(&run_by(&rt, rt.alloc(), 1), CHAINS, TWO_WORDS, 11, 5000)
 }
 
 #[test]
 fn a_chain_goes_on_with_those_of_nested_tables(rt: HostRuntime) -> Result<(), Fail> {
-    compare(&rt, rt.alloc(), NESTED_CHAINS, NESTED, 6, 5000, 2)
+    compare(&run_by(&rt, rt.alloc(), 2), NESTED_CHAINS, NESTED, 6, 5000)
 }
 
 #[test]
@@ -303,7 +297,13 @@ fn fan_out_verify(rt: HostRuntime) -> Result<(), Fail> {
     let alloc = rt.alloc();
     let gate = Meeting::new();
     let text = spelt(alloc, BESIDE_SHOWN)?;
-    let found = judged(&rt, alloc, BESIDE, 12, 5000, 2, text.as_str(), &gate)?;
+    let run = Run {
+        rt: &rt,
+        alloc,
+        workers: 2,
+        gate: &gate,
+    };
+    let found = judged(&run, BESIDE, 12, 5000, text.as_str())?;
     assert_eq!(&rt; found.as_str(), "lowest [5 5 / 1[5 / 1][5 / 1]]");
     assert!(&rt; gate.both_met());
     Ok(())

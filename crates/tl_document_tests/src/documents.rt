@@ -1,6 +1,6 @@
-//! The table of a file, and what the searches of a document are made by and pass.
+//! The table of a file, and what the searches of a document are made by, run with and pass.
 
-ghost use Rattle.std.specs.Prelude.{IfOk};
+ghost use Rattle.std.specs.Prelude.{◌≤◌, IfOk};
 ghost use Rattle.tl_solve.specs.Plain.{IsPlainOutcome};
 ghost use Rattle.tl_table.specs.FewCells.{HasFewCells};
 ghost use Rattle.tl_table.specs.Sound.{IsSound};
@@ -8,7 +8,8 @@ ghost use Rattle.tl_table.specs.Sound.{IsSound};
 use std::alloc::{AllocError, Global};
 use std::sync::Mutex;
 use std::test::Fail;
-use tl_base::{Breaking, Gate, MAX_FILE_BYTES};
+use tl_base::{Breaking, Gate, MAX_FILE_BYTES, NoGate};
+use tl_fan::Run;
 use tl_nested::Make;
 use tl_solve::Plain;
 use tl_table::{Table, formed_has_few_cells, table};
@@ -81,6 +82,18 @@ impl Make for MakePlain {
     fn make(&self, alloc: Global) -> Result<Plain, AllocError> {
         self.made.add(1);
         Ok(Plain::new(alloc))
+    }
+}
+
+/// So many workers, and no gate.
+pub(crate) fn run_by<R>(rt: &R, alloc: Global, workers: u32) -> Run<'_, R, NoGate>
+    requires { 1 ≤ workers }
+{
+    Run {
+        rt,
+        alloc,
+        workers,
+        gate: &NoGate,
     }
 }
 

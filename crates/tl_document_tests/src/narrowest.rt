@@ -1,18 +1,18 @@
 //! The narrowest pages of drawn tables, counted by hand.
 
-ghost use Rattle.std.specs.Prelude.{◌≤◌, IfSome};
+ghost use Rattle.std.specs.Prelude.{◌≡◌, ◌≤◌, IfSome};
 ghost use Rattle.tl_base.specs.declared.limits.TheConstants.{MAX_BUDGET, MAX_PAGE_WIDTH};
 ghost use Rattle.tl_cert.specs.Text.{IsWritable};
 ghost use Rattle.tl_table.specs.Sound.{IsSound};
 
-use crate::documents::{MakePlain, table_of};
+use crate::documents::{MakePlain, run_by, table_of};
 use std::alloc::Global;
 use std::process::Abort;
 use std::test::Fail;
 use std::thread::Threads;
-use tl_base::{MAX_PAGE_WIDTH, NoGate, Style};
+use tl_base::{MAX_PAGE_WIDTH, Style};
 use tl_cert::{Certificate, Claim};
-use tl_narrow::{Slim, slimmest};
+use tl_narrow::{Aim, Slim, slimmest};
 use tl_table::Table;
 use tl_verify::verify;
 
@@ -37,19 +37,8 @@ fn push_certificate(
     if width < 1 || width > MAX_PAGE_WIDTH {
         return Err("no page is so wide".into());
     }
-    if verify(
-        rt,
-        alloc,
-        table,
-        style,
-        width,
-        budget,
-        1,
-        certificate,
-        &NoGate,
-    )
-    .is_err()
-    {
+    let run = run_by(rt, alloc, 1);
+    if verify(&run, table, style, width, budget, certificate).is_err() {
         return Err("a certificate is refused".into());
     }
     let text = match certificate.claim {
@@ -85,27 +74,35 @@ fn told(
     Ok(line)
 }
 
-/// Compares what a search for a page of at most `height` lines tells with what is wanted.
+/// A page in style plain of at most so many lines and columns, by searches of so many cuts.
+fn plain(height: u32, most: u32, budget: u32) -> Aim
+    ensures most { result.most ≡ most }
+    ensures budget { result.budget ≡ budget }
+{
+    Aim {
+        style: Style::Plain,
+        height,
+        most,
+        budget,
+    }
+}
+
+/// Compares what a search tells with what is wanted.
 fn compare(
     rt: &(impl Abort + Threads + Sync),
     alloc: Global,
     file: &str,
-    style: Style,
-    height: u32,
-    most: u32,
-    budget: u32,
+    aim: Aim,
     wanted: &str,
 ) -> Result<(), Fail>
-    requires some { 1 ≤ most }
-    requires page { most ≤ MAX_PAGE_WIDTH }
-    requires cuts { budget ≤ MAX_BUDGET }
+    requires some { 1 ≤ aim.most }
+    requires page { aim.most ≤ MAX_PAGE_WIDTH }
+    requires cuts { aim.budget ≤ MAX_BUDGET }
 {
     let table = table_of(alloc, file)?;
     let maker = MakePlain::new();
-    let slim = slimmest(
-        rt, alloc, &table, style, height, most, None, budget, 2, &maker, &NoGate,
-    )?;
-    let line = told(rt, alloc, &table, budget, &slim)?;
+    let slim = slimmest(&run_by(rt, alloc, 2), &table, aim, None, &maker)?;
+    let line = told(rt, alloc, &table, aim.budget, &slim)?;
     assert_eq!(rt; line.as_str(), wanted);
     Ok(())
 }
@@ -119,19 +116,27 @@ fn after_another(
     height: u32,
 ) -> Result<(String, Option<u32>), Fail> {
     let table = table_of(alloc, file)?;
-    let style = Style::Plain;
+    let run = run_by(rt, alloc, 1);
+    let aim = Aim {
+        style: Style::Plain,
+        height,
+        most: 12,
+        budget: 5000,
+    };
     let maker = MakePlain::new();
-    let mut first = slimmest(
-        rt, alloc, &table, style, height, 12, None, 5000, 1, &maker, &NoGate,
-    )?;
+    let mut first = slimmest(&run, &table, aim, None, &maker)?;
     if first.width != 10 {
         return Err("another page is the narrowest".into());
     }
     let kept = first.kept.take();
     let maker = MakePlain::new();
-    let slim = slimmest(
-        rt, alloc, &table, style, height, 10, kept, 5000, 1, &maker, &NoGate,
-    )?;
+    let narrower = Aim {
+        style: Style::Plain,
+        height,
+        most: 10,
+        budget: 5000,
+    };
+    let slim = slimmest(&run, &table, narrower, kept, &maker)?;
     let line = told(rt, alloc, &table, 5000, &slim)?;
     Ok((line, maker.made.number()))
 }
@@ -148,49 +153,49 @@ const EMPTY: &str = "<table></table>";
 #[test]
 fn the_narrowest_page_of_two_lines(rt: HostRuntime) -> Result<(), Fail> {
     let wanted = "10 10; at 10 lowest 2; at 9 lowest 3; none;";
-    compare(&rt, rt.alloc(), PAIR, Style::Plain, 2, 500, 5000, wanted)
+    compare(&rt, rt.alloc(), PAIR, plain(2, 500, 5000), wanted)
 }
 
 #[test]
 fn at_the_least_width_a_chain_shows_that_none_is_narrower(rt: HostRuntime) -> Result<(), Fail> {
     let wanted = "7 7; at 7 lowest 3; at 6 narrow 7; none;";
-    compare(&rt, rt.alloc(), PAIR, Style::Plain, 3, 500, 5000, wanted)
+    compare(&rt, rt.alloc(), PAIR, plain(3, 500, 5000), wanted)
 }
 
 #[test]
 fn no_page_has_no_lines(rt: HostRuntime) -> Result<(), Fail> {
     let wanted = "0 501; none; at 500 lowest 1; none;";
-    compare(&rt, rt.alloc(), PAIR, Style::Plain, 0, 500, 5000, wanted)
+    compare(&rt, rt.alloc(), PAIR, plain(0, 500, 5000), wanted)
 }
 
 #[test]
 fn without_cuts_the_search_ends_at_the_widest_page(rt: HostRuntime) -> Result<(), Fail> {
     let wanted = "0 7; none; at 6 narrow 7; at 500 bounded 3 1;";
-    compare(&rt, rt.alloc(), PAIR, Style::Plain, 2, 500, 0, wanted)
+    compare(&rt, rt.alloc(), PAIR, plain(2, 500, 0), wanted)
 }
 
 #[test]
 fn a_nested_table_is_as_narrow_as_it_can_be(rt: HostRuntime) -> Result<(), Fail> {
     let wanted = "10 10; at 10 lowest 2; at 9 lowest 3; none;";
-    compare(&rt, rt.alloc(), NESTED, Style::Plain, 2, 500, 5000, wanted)
+    compare(&rt, rt.alloc(), NESTED, plain(2, 500, 5000), wanted)
 }
 
 #[test]
 fn the_widest_page_may_be_the_only_one(rt: HostRuntime) -> Result<(), Fail> {
     let wanted = "7 7; at 7 lowest 3; at 6 narrow 7; none;";
-    compare(&rt, rt.alloc(), PAIR, Style::Plain, 3, 7, 5000, wanted)
+    compare(&rt, rt.alloc(), PAIR, plain(3, 7, 5000), wanted)
 }
 
 #[test]
 fn a_page_below_the_least_width_holds_nothing(rt: HostRuntime) -> Result<(), Fail> {
     let wanted = "0 7; none; at 6 narrow 7; none;";
-    compare(&rt, rt.alloc(), PAIR, Style::Plain, 3, 6, 5000, wanted)
+    compare(&rt, rt.alloc(), PAIR, plain(3, 6, 5000), wanted)
 }
 
 #[test]
 fn a_table_without_columns_takes_the_narrowest_page(rt: HostRuntime) -> Result<(), Fail> {
     let wanted = "1 1; at 1 lowest 0; none; none;";
-    compare(&rt, rt.alloc(), EMPTY, Style::Plain, 0, 500, 5000, wanted)
+    compare(&rt, rt.alloc(), EMPTY, plain(0, 500, 5000), wanted)
 }
 
 #[test]
@@ -200,10 +205,7 @@ fn any_height_is_met_at_the_least_width(rt: HostRuntime) -> Result<(), Fail> {
         &rt,
         rt.alloc(),
         PAIR,
-        Style::Plain,
-        1_073_741_824,
-        500,
-        5000,
+        plain(1_073_741_824, 500, 5000),
         wanted,
     )
 }
@@ -211,19 +213,25 @@ fn any_height_is_met_at_the_least_width(rt: HostRuntime) -> Result<(), Fail> {
 #[test]
 fn a_framed_page_has_its_own_widths(rt: HostRuntime) -> Result<(), Fail> {
     let wanted = "11 11; at 11 lowest 4; at 10 lowest 5; none;";
-    compare(&rt, rt.alloc(), PAIR, Style::Frame, 4, 500, 5000, wanted)
+    let aim = Aim {
+        style: Style::Frame,
+        height: 4,
+        most: 500,
+        budget: 5000,
+    };
+    compare(&rt, rt.alloc(), PAIR, aim, wanted)
 }
 
 #[test]
 fn heights_that_were_found_are_enough_without_cuts(rt: HostRuntime) -> Result<(), Fail> {
     let wanted = "7 7; at 7 lowest 3; at 6 narrow 7; none;";
-    compare(&rt, rt.alloc(), PAIR, Style::Plain, 3, 500, 0, wanted)
+    compare(&rt, rt.alloc(), PAIR, plain(3, 500, 0), wanted)
 }
 
 #[test]
 fn a_nested_table_without_cuts_ends_the_search(rt: HostRuntime) -> Result<(), Fail> {
     let wanted = "0 7; none; at 6 narrow 7; at 12 bounded 3 2;";
-    compare(&rt, rt.alloc(), NESTED, Style::Plain, 2, 12, 0, wanted)
+    compare(&rt, rt.alloc(), NESTED, plain(2, 12, 0), wanted)
 }
 
 /// The widest page is not tried again: of the pages of 7 to 9 columns those of 8 and 9 are.

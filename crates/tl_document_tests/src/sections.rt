@@ -3,13 +3,14 @@
 ghost use Rattle.std.specs.Prelude.{◌≤◌};
 ghost use Rattle.tl_base.specs.declared.limits.TheConstants.{MAX_BUDGET, MAX_PAGE_WIDTH};
 
-use crate::documents::{Count, MakePlain, Meeting, table_of};
+use crate::documents::{Count, MakePlain, Meeting, run_by, table_of};
 use std::alloc::{AllocError, Global};
 use std::process::Abort;
 use std::test::Fail;
 use std::thread::Threads;
-use tl_base::{Gate, NoGate, Style};
+use tl_base::{Gate, Style};
 use tl_cert::Section;
+use tl_fan::Run;
 use tl_nested::sections;
 use tl_table::least_width;
 
@@ -41,19 +42,16 @@ fn push_section(alloc: Global, line: &mut String, section: &Section) -> Result<(
 }
 
 /// The sections of a file on a page in style plain, as text. Each is searched once.
-fn sections_of<G: Gate>(
-    rt: &(impl Abort + Threads + Sync),
-    alloc: Global,
+fn sections_of<R: Abort + Threads + Sync, G: Gate>(
+    run: &Run<'_, R, G>,
     file: &str,
     width: u32,
     budget: u32,
-    workers: u32,
-    gate: &G,
 ) -> Result<String, Fail>
     requires page { width ≤ MAX_PAGE_WIDTH }
     requires cuts { budget ≤ MAX_BUDGET }
-    requires workers { 1 ≤ workers }
 {
+    let alloc = run.alloc;
     let table = table_of(alloc, file)?;
     let least = least_width(alloc, &table, Style::Plain)?;
     if width < least {
@@ -61,10 +59,8 @@ fn sections_of<G: Gate>(
     }
     let style = Style::Plain;
     let maker = MakePlain::new();
-    let found = sections(
-        rt, alloc, &table, style, width, budget, workers, &maker, gate,
-    )?;
-    assert_eq!(rt; maker.made.number(), u32::try_from(found.len()).ok());
+    let found = sections(run, &table, style, width, budget, &maker)?;
+    assert_eq!(run.rt; maker.made.number(), u32::try_from(found.len()).ok());
     let mut line = String::new(alloc);
     for section in found.as_slice() {
         push_section(alloc, &mut line, section)?;
@@ -84,11 +80,11 @@ fn compare(
     requires page { width ≤ MAX_PAGE_WIDTH }
     requires cuts { budget ≤ MAX_BUDGET }
 {
-    let found = sections_of(rt, alloc, file, width, budget, 1, &NoGate)?;
+    let found = sections_of(&run_by(rt, alloc, 1), file, width, budget)?;
     assert_eq!(rt; found.as_str(), wanted);
-    let found = sections_of(rt, alloc, file, width, budget, 2, &NoGate)?;
+    let found = sections_of(&run_by(rt, alloc, 2), file, width, budget)?;
     assert_eq!(rt; found.as_str(), wanted);
-    let found = sections_of(rt, alloc, file, width, budget, 16, &NoGate)?;
+    let found = sections_of(&run_by(rt, alloc, 16), file, width, budget)?;
     assert_eq!(rt; found.as_str(), wanted);
     Ok(())
 }
@@ -175,7 +171,13 @@ fn tables_side_by_side_on_a_narrower_page(rt: HostRuntime) -> Result<(), Fail> {
 #[test]
 fn fan_out_sections(rt: HostRuntime) -> Result<(), Fail> {
     let gate = Meeting::new();
-    let found = sections_of(&rt, rt.alloc(), BESIDE, 12, 100, 2, &gate)?;
+    let run = Run {
+        rt: &rt,
+        alloc: rt.alloc(),
+        workers: 2,
+        gate: &gate,
+    };
+    let found = sections_of(&run, BESIDE, 12, 100)?;
     let wanted = "2 12 1 1: 5;2 4 2 2: 2;1 12 1 1: 5;1 4 2 2: 2;0 12 1 1: 5 5;";
     assert_eq!(&rt; found.as_str(), wanted);
     assert!(&rt; gate.both_met());
@@ -188,7 +190,13 @@ fn the_deepest_tables_come_first_and_each_once(rt: HostRuntime) -> Result<(), Fa
         count: Count::new(),
         times: [Count::new(), Count::new(), Count::new(), Count::new()],
     };
-    sections_of(&rt, rt.alloc(), FORKED, 20, 100, 1, &gate)?;
+    let run = Run {
+        rt: &rt,
+        alloc: rt.alloc(),
+        workers: 1,
+        gate: &gate,
+    };
+    sections_of(&run, FORKED, 20, 100)?;
     assert_eq!(&rt; gate.count.number(), Some(3));
     assert_eq!(&rt; gate.times[2].number(), Some(1));
     assert_eq!(&rt; gate.times[1].number(), Some(2));
@@ -225,7 +233,7 @@ fn many_sections(alloc: Global) -> Result<String, AllocError> {
 fn two_hundred_tables_by_sixteen_workers(rt: HostRuntime) -> Result<(), Fail> {
     let alloc = rt.alloc();
     let file = many(alloc)?;
-    let found = sections_of(&rt, alloc, file.as_str(), 1, 100, 16, &NoGate)?;
+    let found = sections_of(&run_by(&rt, alloc, 16), file.as_str(), 1, 100)?;
     assert_eq!(&rt; found.as_str(), many_sections(alloc)?.as_str());
     Ok(())
 }

@@ -4,6 +4,7 @@ ghost use Rattle.std.specs.Prelude.{◌≡◌, ◌≤◌, IfOk, Ok};
 ghost use denote.Param.Send.{IsSync, IsSend};
 ghost use Rattle.std.specs.List.{All, AllZip, range_with_len};
 
+use crate::Run;
 use std::alloc::{AllocError, Global};
 use std::thread;
 use std::thread::Threads;
@@ -35,32 +36,30 @@ fn done<G: Gate, X: Drop, F: Fn(u32) -> X>(gate: &G, number: u32, piece: &F) -> 
 /// keep it for some 30 milliseconds while another has nothing to do.
 #[cycle(threads)]
 fn at_once<R: Threads + Sync, G: Gate, X: Send + Drop, F: Fn(u32) -> X + Sync>(
-    rt: &R,
-    alloc: Global,
-    gate: &G,
+    run: &Run<'_, R, G>,
     numbers: &[u32],
     piece: &F,
 ) -> Result<Vec<X>, AllocError>
     requires { All (λ number. F.pre piece.now number) numbers.now }
     ensures { IfOk result (λ found. AllZip (λ number one. F.post piece.now number one) numbers.now found.items) }
 {
-    let mut found = Vec::new(alloc);
+    let mut found = Vec::new(run.alloc);
     let Some((&last, others)) = numbers.split_last() else {
         return Ok(found);
     };
     if others.is_empty() {
-        found.push(done(gate, last, piece))?;
+        found.push(done(run.gate, last, piece))?;
         return Ok(found);
     }
     let one = || -> X
         requires { F.pre piece.now last }
         ensures { F.post piece.entry.now last result }
-    { done(gate, last, piece) };
+    { done(run.gate, last, piece) };
     let before = || -> Result<Vec<X>, AllocError>
         requires { IsSync R.row × IsSync F.row × IsSend X.row × All (λ number. F.pre piece.now number) others.now }
         ensures { IfOk result (λ found. AllZip (λ number one. F.post piece.entry.now number one) others.entry.now found.items) }
-    { at_once(rt, alloc, gate, others, piece) };
-    let (one, before) = thread::join(rt, one, before);
+    { at_once(run, others, piece) };
+    let (one, before) = thread::join(run.rt, one, before);
     let mut found = before?;
     found.push(one)?;
     Ok(found)
@@ -93,31 +92,28 @@ fn later_group(count: usize, effort: u64, workers: u32) -> usize
     }
 }
 
-/// What the pieces of these numbers give, in their order. They run in groups of `workers`: those of one
-/// group at once, where so many threads can be made, and the next group begins when all of them have ended.
+/// What the pieces of these numbers give, in their order. They run in groups of as many as the run has workers:
+/// those of one group at once, where so many threads can be made, and the next group begins when all of them have
+/// ended.
 /// Where the pieces are small, those after the first group run one after the other, as a thread costs more.
 /// `effort` tells how many microseconds all of them take, as far as it is known before. Each piece passes
 /// the gate once, before it begins, by its number.
 pub fn fan_out<R: Threads + Sync, G: Gate, X: Send + Drop, F: Fn(u32) -> X + Sync>(
-    rt: &R,
-    alloc: Global,
-    gate: &G,
-    workers: u32,
+    run: &Run<'_, R, G>,
     numbers: &[u32],
     effort: u64,
     piece: &F,
 ) -> Result<Vec<X>, AllocError>
-    requires workers { 1 ≤ workers }
-    requires pieces { All (λ number. F.pre piece.now number) numbers.now }
+    requires { All (λ number. F.pre piece.now number) numbers.now }
     ensures { IfOk result (λ found. AllZip (λ number one. F.post piece.now number one) numbers.now found.items) }
 {
-    let later = later_group(numbers.len(), effort, workers);
-    let mut group = workers as usize;
-    let mut found = Vec::new(alloc);
+    let later = later_group(numbers.len(), effort, run.workers);
+    let mut group = run.workers as usize;
+    let mut found = Vec::new(run.alloc);
     let mut from = 0;
     while from < numbers.len() {
         let upto = from + group.min(numbers.len() - from);
-        let mut more = at_once(rt, alloc, gate, &numbers[from..upto], piece)?;
+        let mut more = at_once(run, &numbers[from..upto], piece)?;
         found.append(&mut more)?;
         from = upto;
         group = later;
@@ -131,21 +127,12 @@ pub fn gather<
     G: Gate,
     X: Send + Drop,
     F: Fn(u32) -> Result<X, AllocError> + Sync,
->(
-    rt: &R,
-    alloc: Global,
-    gate: &G,
-    workers: u32,
-    numbers: &[u32],
-    effort: u64,
-    piece: &F,
-) -> Result<Vec<X>, AllocError>
-    requires workers { 1 ≤ workers }
-    requires pieces { All (λ number. F.pre piece.now number) numbers.now }
+>(run: &Run<'_, R, G>, numbers: &[u32], effort: u64, piece: &F) -> Result<Vec<X>, AllocError>
+    requires { All (λ number. F.pre piece.now number) numbers.now }
     ensures { IfOk result (λ found. AllZip (λ number one. F.post piece.now number (Ok one)) numbers.now found.items) }
 {
-    let results = fan_out(rt, alloc, gate, workers, numbers, effort, piece)?;
-    let mut found = Vec::new(alloc);
+    let results = fan_out(run, numbers, effort, piece)?;
+    let mut found = Vec::new(run.alloc);
     for result in results {
         found.push(result?)?;
     }

@@ -4,5 +4,7 @@
 #![tactic(auto)]
 
 mod fan;
+mod run;
 
 pub use fan::{fan_out, gather, places};
+pub use run::Run;

@@ -8,7 +8,7 @@ use std::sync::Mutex;
 use std::test::Fail;
 use std::thread::Threads;
 use tl_base::{Gate, NoGate};
-use tl_fan::{fan_out, gather, places};
+use tl_fan::{Run, fan_out, gather, places};
 
 /// Microseconds that no pieces here take: none of them is small.
 const LONG: u64 = 1_000_000_000;
@@ -123,10 +123,16 @@ fn tenfold(
 ) -> Result<(), Fail>
     requires { 1 ≤ workers }
 {
+    let run = Run {
+        rt,
+        alloc,
+        workers,
+        gate: &NoGate,
+    };
     let piece = |number: u32| -> u32 { number.wrapping_mul(10) };
-    let found = fan_out(rt, alloc, &NoGate, workers, numbers, LONG, &piece)?;
+    let found = fan_out(&run, numbers, LONG, &piece)?;
     assert_eq!(rt; found.as_slice(), wanted);
-    let small = fan_out(rt, alloc, &NoGate, workers, numbers, 0, &piece)?;
+    let small = fan_out(&run, numbers, 0, &piece)?;
     assert_eq!(rt; small.as_slice(), wanted);
     Ok(())
 }
@@ -160,15 +166,13 @@ fn meet_at_work(
     };
     let piece = |number: u32| -> u32 { number };
     let numbers = places(alloc, count)?;
-    let found = fan_out(
+    let run = Run {
         rt,
         alloc,
-        &gate,
         workers,
-        numbers.as_slice(),
-        effort,
-        &piece,
-    )?;
+        gate: &gate,
+    };
+    let found = fan_out(&run, numbers.as_slice(), effort, &piece)?;
     assert_eq!(rt; found.as_slice(), numbers.as_slice());
     assert_eq!(rt; gate.met.number(), Some(past));
     Ok(())
@@ -204,23 +208,21 @@ fn each_piece_passes_the_gate_once(rt: HostRuntime) -> Result<(), Fail> {
     };
     let piece = |number: u32| -> u32 { number };
     let numbers = places(rt.alloc(), 40)?;
-    fan_out(
-        &rt,
-        rt.alloc(),
-        &gate,
-        3,
-        &numbers.as_slice()[..4],
-        LONG,
-        &piece,
-    )?;
+    let run = Run {
+        rt: &rt,
+        alloc: rt.alloc(),
+        workers: 3,
+        gate: &gate,
+    };
+    fan_out(&run, &numbers.as_slice()[..4], LONG, &piece)?;
     for passed in &gate.passed {
         assert_eq!(&rt; passed.number(), Some(1));
     }
-    fan_out(&rt, rt.alloc(), &gate, 3, numbers.as_slice(), LONG, &piece)?;
+    fan_out(&run, numbers.as_slice(), LONG, &piece)?;
     for passed in &gate.passed {
         assert_eq!(&rt; passed.number(), Some(11));
     }
-    fan_out(&rt, rt.alloc(), &gate, 3, numbers.as_slice(), 0, &piece)?;
+    fan_out(&run, numbers.as_slice(), 0, &piece)?;
     for passed in &gate.passed {
         assert_eq!(&rt; passed.number(), Some(21));
     }
@@ -246,7 +248,13 @@ fn groups(
         number
     };
     let numbers = places(alloc, count)?;
-    let found = fan_out(rt, alloc, &gate, workers, numbers.as_slice(), LONG, &piece)?;
+    let run = Run {
+        rt,
+        alloc,
+        workers,
+        gate: &gate,
+    };
+    let found = fan_out(&run, numbers.as_slice(), LONG, &piece)?;
     assert_eq!(rt; found.as_slice(), numbers.as_slice());
     assert_eq!(rt; gate.early.number(), Some(0));
     Ok(())
@@ -269,8 +277,14 @@ fn a_piece_out_of_memory_ends_all(rt: HostRuntime) -> Result<(), Fail> {
             Ok(number)
         }
     };
-    let found = gather(&rt, rt.alloc(), &NoGate, 2, &[0, 1, 3], LONG, &piece)?;
+    let run = Run {
+        rt: &rt,
+        alloc: rt.alloc(),
+        workers: 2,
+        gate: &NoGate,
+    };
+    let found = gather(&run, &[0, 1, 3], LONG, &piece)?;
     assert_eq!(&rt; found.as_slice(), [0, 1, 3].as_slice());
-    assert!(&rt; gather(&rt, rt.alloc(), &NoGate, 2, &[0, 1, 2, 3], LONG, &piece).is_err());
+    assert!(&rt; gather(&run, &[0, 1, 2, 3], LONG, &piece).is_err());
     Ok(())
 }

@@ -20,6 +20,7 @@ use std::thread;
 use std::thread::Threads;
 use tl_base::{Gate, Style};
 use tl_cert::{CertError, Certificate, Claim, Section, read};
+use tl_fan::Run;
 use tl_form::{
     bounded_is_between, budget_closes, lowest_is_least, narrow_is_too_wide, open_spends,
 };
@@ -41,10 +42,11 @@ pub fn check<R: Threads + Sync, G: Gate>(
     requires range { IsTaskInRange task.now }
     ensures checked { IfOk result (IsChecked task.now bytes.now text.now) }
 {
-    let (input, certificate) = read_both(rt, alloc, task, bytes, text);
+    let run = task.run(rt, alloc, gate);
+    let (input, certificate) = read_both(&run, task, bytes, text);
     match input? {
         Input::Table(given) => {
-            let verdict = judge(rt, alloc, task, &given, &certificate, gate);
+            let verdict = judge(&run, task, &given, &certificate);
             give_back(rt, !are_small(bytes, text), given, certificate);
             verdict
         }
@@ -66,7 +68,7 @@ pub fn judge_text<R: Threads + Sync, G: Gate>(
     ensures judged { IfOk result (IsJudged task.now given.now.table text.now) }
 {
     let certificate = read(alloc, text);
-    judge(rt, alloc, task, given, &certificate, gate)
+    judge(&task.run(rt, alloc, gate), task, given, &certificate)
 }
 
 /// What is rejected, or out of memory.
@@ -117,12 +119,10 @@ fn verdict_of(most: u32, claim: Claim, width: u64) -> Verdict
 
 /// Judges what the text of a certificate was read as, for what is asked of the table.
 fn judge<R: Threads + Sync, G: Gate>(
-    rt: &R,
-    alloc: Global,
+    run: &Run<'_, R, G>,
     task: &Task,
     given: &Given,
     certificate: &Result<Certificate, CertError>,
-    gate: &G,
 ) -> Result<Verdict, AllocError>
     requires usable { IsUsableTable task.now given.now.table given.now.budget }
     requires written { IfOk certificate.now IsWritable }
@@ -134,17 +134,7 @@ fn judge<R: Threads + Sync, G: Gate>(
         Ok(certificate) => certificate,
         Err(error) => return rejected(text_rejection(error)),
     };
-    match verify(
-        rt,
-        alloc,
-        table,
-        task.style,
-        task.width,
-        *budget,
-        task.workers,
-        certificate,
-        gate,
-    ) {
+    match verify(run, table, task.style, task.width, *budget, certificate) {
         Ok(_) => {
             lowest_is_least();
             bounded_is_between();
@@ -167,9 +157,8 @@ fn are_small(bytes: &[u8], text: &[u8]) -> bool {
 }
 
 /// Reads the bytes and the text of a certificate, at one time unless they are small.
-fn read_both<R: Threads + Sync>(
-    rt: &R,
-    alloc: Global,
+fn read_both<R: Threads + Sync, G: Gate>(
+    run: &Run<'_, R, G>,
     task: &Task,
     bytes: &[u8],
     text: &[u8],
@@ -179,6 +168,7 @@ fn read_both<R: Threads + Sync>(
     ensures usable { IfOk result.0 (IsUsable task.now) }
     ensures read { IsReadAs text.now result.1 }
 {
+    let alloc = run.alloc;
     if are_small(bytes, text) {
         return (read_input(alloc, task, bytes), read(alloc, text));
     }
@@ -189,7 +179,7 @@ fn read_both<R: Threads + Sync>(
     let certificate = || -> Result<Certificate, CertError>
         ensures { IsReadAs text.entry.now result }
     { read(alloc, text) };
-    thread::join(rt, input, certificate)
+    thread::join(run.rt, input, certificate)
 }
 
 /// Gives back the memory of a table and of what its certificate was read as, both at one time if it is worth a

@@ -14,7 +14,6 @@ mod lowest;
 mod makers;
 mod narrowest;
 mod rejection;
-mod rounds;
 mod summary;
 mod task;
 mod tidiest;

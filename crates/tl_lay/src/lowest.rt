@@ -27,6 +27,7 @@ use std::thread;
 use std::thread::Threads;
 use tl_base::{Gate, List};
 use tl_cert::{Certificate, Claim, write};
+use tl_fan::Run;
 use tl_form::{
     Subject, bounded_is_between, budget_closes, layout_with, lowest_is_least, open_spends,
 };
@@ -54,29 +55,26 @@ pub fn lay<R: Threads + Sync, G: Gate>(
 {
     laid_is_lowest();
     match read_input(alloc, task, bytes)? {
-        Input::Table(Given { table, budget }) => answer_to(rt, alloc, task, &table, budget, gate),
+        Input::Table(given) => answer_to(&task.run(rt, alloc, gate), task, &given),
         Input::Refused(refusal) => Ok(Answer::Refused(refusal)),
     }
 }
 
-/// What the table is answered with, by the task and with this budget of each search.
+/// What the table that is given is answered with, by the task.
 pub fn answer_to<R: Threads + Sync, G: Gate>(
-    rt: &R,
-    alloc: Global,
+    run: &Run<'_, R, G>,
     task: &Task,
-    table: &Table,
-    budget: u32,
-    gate: &G,
+    given: &Given,
 ) -> Result<Answer, AllocError>
-    requires usable { IsUsableTable task.now table.now budget }
-    ensures { IfOk result (IsLaidAs task.now table.now) }
+    requires usable { IsUsableTable task.now given.now.table given.now.budget }
+    ensures { IfOk result (IsLaidAs task.now given.now.table) }
 {
-    let subject = Subject::of(alloc, table, task.style, task.width)?;
+    let subject = Subject::of(run.alloc, &given.table, task.style, task.width)?;
     let least = subject.least[0];
     if least > task.width {
-        return too_narrow(alloc, task, &subject, budget, least);
+        return too_narrow(run.alloc, task, &subject, given.budget, least);
     }
-    lowest(rt, alloc, task, &subject, budget, gate)
+    lowest(run, task, &subject, given.budget)
 }
 
 /// The chains that show that the page is too narrow.
@@ -104,12 +102,10 @@ fn too_narrow(
 
 /// The lowest page that the search finds, with its certificate.
 fn lowest<R: Threads + Sync, G: Gate>(
-    rt: &R,
-    alloc: Global,
+    run: &Run<'_, R, G>,
     task: &Task,
     subject: &Subject<'_>,
     budget: u32,
-    gate: &G,
 ) -> Result<Answer, AllocError>
     requires usable { IsUsableTable task.now subject.now.table.now budget }
     requires subject { IsDocumentOf subject.now.table.now task.now.style task.now.width (meant subject.now) }
@@ -120,8 +116,8 @@ fn lowest<R: Threads + Sync, G: Gate>(
     let FoundPage {
         certificate,
         placed,
-    } = found(rt, alloc, task, subject, budget, gate)?;
-    laid(rt, alloc, task, subject.table, budget, &certificate, placed)
+    } = found(run, task, subject, budget)?;
+    laid(run, task, subject.table, budget, &certificate, placed)
 }
 
 /// The certificate of a search, with the placement that was found for its last section.
@@ -135,12 +131,10 @@ pub struct FoundPage {
 /// The certificate of the sections that the search finds on the page, with the placement of the last. The
 /// subject is that of the task's style and width.
 pub fn found<R: Threads + Sync, G: Gate>(
-    rt: &R,
-    alloc: Global,
+    run: &Run<'_, R, G>,
     task: &Task,
     subject: &Subject<'_>,
     budget: u32,
-    gate: &G,
 ) -> Result<FoundPage, AllocError>
     requires usable { IsUsableTable task.now subject.now.table.now budget }
     requires subject { IsDocumentOf subject.now.table.now task.now.style task.now.width (meant subject.now) }
@@ -150,8 +144,8 @@ pub fn found<R: Threads + Sync, G: Gate>(
     ensures placed { IfOk result (λ page. IsLastPlacement subject.now.table.now task.now.style task.now.width
         page.certificate.sections page.placed) }
 {
-    let LaidSections { sections, placed } = searched(rt, alloc, task, subject, budget, gate)?;
-    let certificate = certificate_of(alloc, task.style, task.width, budget, sections);
+    let LaidSections { sections, placed } = searched(run, task, subject, budget)?;
+    let certificate = certificate_of(run.alloc, task.style, task.width, budget, sections);
     Ok(FoundPage {
         certificate,
         placed,
@@ -160,9 +154,8 @@ pub fn found<R: Threads + Sync, G: Gate>(
 
 /// The page of the layout that the certificate of a search names, with the certificate. The placement of
 /// its last section is the one that the search found.
-pub fn laid<R: Threads + Sync>(
-    rt: &R,
-    alloc: Global,
+pub fn laid<R: Threads + Sync, G: Gate>(
+    run: &Run<'_, R, G>,
     task: &Task,
     table: &Table,
     budget: u32,
@@ -177,13 +170,13 @@ pub fn laid<R: Threads + Sync>(
     ensures told { IfOk result (λ answer. (taken : ℕ) × (page : List ℕ) × (text : Option (List ℕ))
         × (answer ≡ answer_of task.now.width certificate.now.claim taken page text)) }
 {
-    let layout = layout_with(alloc, table, task.style, certificate, placed)?;
+    let layout = layout_with(run.alloc, table, task.style, certificate, placed)?;
     let width = total_width(task.style, layout.widths.as_slice());
     lowest_is_least();
     bounded_is_between();
     budget_closes();
     open_spends();
-    let (page, text) = files(rt, alloc, task, table, &layout, certificate)?;
+    let (page, text) = files(run, task, table, &layout, certificate)?;
     Ok(answer_of(task.width, certificate.claim, width, page, text))
 }
 
@@ -222,9 +215,8 @@ fn answer_of(
 
 /// The page of the table in the layout, and the text of the certificate, where it is asked for. Two workers
 /// write them at one time.
-fn files<R: Threads + Sync>(
-    rt: &R,
-    alloc: Global,
+fn files<R: Threads + Sync, G: Gate>(
+    run: &Run<'_, R, G>,
     task: &Task,
     table: &Table,
     layout: &Layout,
@@ -237,6 +229,7 @@ fn files<R: Threads + Sync>(
     ensures page { IfOk result (λ files. IsPageFile task.now.html task.now.style table.now layout.now files.0) }
     ensures certificate { IfOk result (λ files. files.1 ≡ certificate_file task.now.certified certificate.now) }
 {
+    let alloc = run.alloc;
     if task.workers == 1 || !task.certified {
         let page = page_file(alloc, task, table, layout)?;
         let text = certificate_file(alloc, task.certified, certificate)?;
@@ -251,7 +244,7 @@ fn files<R: Threads + Sync>(
             × Fits table.now task.now.style width height layout.now) }
         ensures { IfOk result (IsPageFile task.entry.now.html task.entry.now.style table.entry.now layout.entry.now) }
     { page_file(alloc, task, table, layout) };
-    let (text, page) = thread::join(rt, certified, drawn);
+    let (text, page) = thread::join(run.rt, certified, drawn);
     Ok((page?, text?))
 }
 

@@ -19,9 +19,9 @@ use std::alloc::{AllocError, Global};
 use std::thread::Threads;
 use tl_base::{Gate, List};
 use tl_cert::Certificate;
+use tl_fan::Run;
 use tl_form::layout;
 use tl_narrow::Slim;
-use tl_table::Table;
 
 /// Looks for the narrowest page, of those of up to as many columns as the task has, that holds the table that
 /// the bytes are in at most `height` lines, up to `MAX_HEIGHT`. It answers with that page, with the least width
@@ -43,27 +43,24 @@ pub fn narrow<R: Threads + Sync, G: Gate>(
 {
     narrowed_is_narrowest();
     match read_input(alloc, task, bytes)? {
-        Input::Table(given) => slimmed(rt, alloc, task, height, &given, gate),
+        Input::Table(given) => slimmed(&task.run(rt, alloc, gate), task, &given, height),
         Input::Refused(refusal) => Ok(Answer::Refused(refusal)),
     }
 }
 
 /// Searches, and makes the page and the texts of what was found.
 fn slimmed<R: Threads + Sync, G: Gate>(
-    rt: &R,
-    alloc: Global,
+    run: &Run<'_, R, G>,
     task: &Task,
-    height: u32,
     given: &Given,
-    gate: &G,
+    height: u32,
 ) -> Result<Answer, AllocError>
     requires lines { height ≤ MAX_HEIGHT }
     requires usable { IsUsableTable task.now given.now.table given.now.budget }
     ensures { IfOk result (IsSlimmed task.now height given.now.table) }
 {
-    let Given { table, budget } = given;
-    let slim = slimmest_by(rt, alloc, task, table, height, None, *budget, gate)?;
-    let evidence = evidence_of(alloc, task, table, height, *budget, &slim)?;
+    let slim = slimmest_by(run, task, given, height, None)?;
+    let evidence = evidence_of(run.alloc, task, given, height, &slim)?;
     Ok(slim_answer(task, height, &slim, evidence))
 }
 
@@ -99,18 +96,17 @@ fn found_width(width: u32) -> Option<u32>
 pub fn evidence_of(
     alloc: Global,
     task: &Task,
-    table: &Table,
+    given: &Given,
     height: u32,
-    budget: u32,
     slim: &Slim,
 ) -> Result<Evidence, AllocError>
-    requires usable { IsUsableTable task.now table.now budget }
+    requires usable { IsUsableTable task.now given.now.table given.now.budget }
     requires lines { height ≤ MAX_HEIGHT }
-    requires slim { IsSlim table.now task.now.style height task.now.width budget slim.now }
-    ensures { IfOk result (IsEvidence task.now table.now height slim.now) }
+    requires slim { IsSlim given.now.table task.now.style height task.now.width given.now.budget slim.now }
+    ensures { IfOk result (IsEvidence task.now given.now.table height slim.now) }
 {
     Ok(Evidence {
-        page: kept_page(alloc, task, table, height, budget, slim)?,
+        page: kept_page(alloc, task, given, height, slim)?,
         kept: text_of(alloc, task.certified, &slim.kept)?,
         less: text_of(alloc, task.certified, &slim.less)?,
         spent: text_of(alloc, task.certified, &slim.spent)?,
@@ -121,18 +117,17 @@ pub fn evidence_of(
 fn kept_page(
     alloc: Global,
     task: &Task,
-    table: &Table,
+    given: &Given,
     height: u32,
-    budget: u32,
     slim: &Slim,
 ) -> Result<Option<List<u8>>, AllocError>
-    requires usable { IsUsableTable task.now table.now budget }
+    requires usable { IsUsableTable task.now given.now.table given.now.budget }
     requires lines { height ≤ MAX_HEIGHT }
-    requires slim { IsSlim table.now task.now.style height task.now.width budget slim.now }
-    ensures { IfOk result (IsPageOfKept task.now table.now height slim.now.width slim.now.kept) }
+    requires slim { IsSlim given.now.table task.now.style height task.now.width given.now.budget slim.now }
+    ensures { IfOk result (IsPageOfKept task.now given.now.table height slim.now.width slim.now.kept) }
 {
     match &slim.kept {
-        Some(kept) => Ok(Some(low_page(alloc, task, table, height, slim.width, budget, kept)?)),
+        Some(kept) => Ok(Some(low_page(alloc, task, given, height, slim.width, kept)?)),
         None => Ok(None),
     }
 }
@@ -141,20 +136,19 @@ fn kept_page(
 fn low_page(
     alloc: Global,
     task: &Task,
-    table: &Table,
+    given: &Given,
     height: u32,
     width: u32,
-    budget: u32,
     certificate: &Certificate,
 ) -> Result<List<u8>, AllocError>
-    requires usable { IsUsableTable task.now table.now budget }
+    requires usable { IsUsableTable task.now given.now.table given.now.budget }
     requires lines { height ≤ MAX_HEIGHT }
     requires narrow { width ≤ MAX_PAGE_WIDTH }
-    requires low { IsLowCertificate table.now task.now.style height width budget certificate.now }
-    ensures { IfOk result (IsSlimPage task.now table.now height width certificate.now) }
+    requires low { IsLowCertificate given.now.table task.now.style height width given.now.budget certificate.now }
+    ensures { IfOk result (IsSlimPage task.now given.now.table height width certificate.now) }
 {
-    let layout = layout(alloc, table, task.style, certificate)?;
-    page_file(alloc, task, table, &layout)
+    let layout = layout(alloc, &given.table, task.style, certificate)?;
+    page_file(alloc, task, &given.table, &layout)
 }
 
 /// The text of the certificate, where there is one and its text is wanted.

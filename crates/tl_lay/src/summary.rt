@@ -23,6 +23,7 @@ use tl_base::{Breaking, Gate, Style};
 use tl_cert::Section;
 use tl_command::Search;
 use tl_demo::{DEMO_WIDTH, demo_fits, demo_text};
+use tl_fan::Run;
 use tl_form::{Due, Subject};
 use tl_narrow::certificate_of;
 use tl_nested::{LaidSections, problem_at};
@@ -78,10 +79,8 @@ fn count_after(alloc: Global, table: &Table, before: &[Section]) -> Result<u64, 
 
 /// The numbers of a table that is laid out on the page of a demonstration.
 fn summary_of<R: Threads + Sync, G: Gate>(
-    rt: &R,
-    alloc: Global,
+    run: &Run<'_, R, G>,
     table: &Table,
-    gate: &G,
 ) -> Result<Summary, AllocError>
     requires sound { IsSound table.now }
     requires cells { HasFewCells table.now }
@@ -89,23 +88,20 @@ fn summary_of<R: Threads + Sync, G: Gate>(
     ensures { IfOk result (IsSummaryOf table.now) }
 {
     let task = task();
-    let subject = Subject::of(alloc, table, task.style, task.width)?;
+    let subject = Subject::of(run.alloc, table, task.style, task.width)?;
     let LaidSections {
         sections,
         placed: _placed,
-    } = searched(rt, alloc, &task, &subject, DEMO_BUDGET, gate)?;
-    let certificate = certificate_of(alloc, task.style, task.width, DEMO_BUDGET, sections);
+    } = searched(run, &task, &subject, DEMO_BUDGET)?;
+    let certificate = certificate_of(run.alloc, task.style, task.width, DEMO_BUDGET, sections);
     // The certificate is valid, so it is refused only where memory runs out.
     if verify(
-        rt,
-        alloc,
+        run,
         table,
         Style::Plain,
         DEMO_WIDTH,
         DEMO_BUDGET,
-        task.workers,
         &certificate,
-        gate,
     )
     .is_err()
     {
@@ -116,7 +112,7 @@ fn summary_of<R: Threads + Sync, G: Gate>(
     let last = &sections[own];
     Ok(Summary {
         cells: table.cells.len() as u32,
-        count: count_after(alloc, table, &sections[..own])?,
+        count: count_after(run.alloc, table, &sections[..own])?,
         height: last.height,
         lower: last.lower,
         cuts: last.trace.len() as u32,
@@ -136,5 +132,5 @@ pub fn demonstrate<R: Threads + Sync, G: Gate>(
     demo_fits();
     let reading = read(alloc, text.as_slice(), Source::Html(Breaking::Words))?;
     let table = reading.table().unwrap();
-    summary_of(rt, alloc, &table, gate)
+    summary_of(&task().run(rt, alloc, gate), &table)
 }

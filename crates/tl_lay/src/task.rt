@@ -1,7 +1,11 @@
 //! What is asked of a table.
 
+ghost use Rattle.std.specs.Prelude.{◌≡◌, ◌≤◌};
+
+use std::alloc::Global;
 use tl_base::Style;
 use tl_command::Search;
+use tl_fan::Run;
 use tl_read::Source;
 
 /// What is asked of a table.
@@ -21,4 +25,19 @@ pub struct Task {
     pub html: bool,
     /// Whether texts of certificates are wanted.
     pub certified: bool,
+}
+
+impl Task {
+    /// What the work for the task runs with: as many workers as it has.
+    pub(crate) fn run<'a, R, G>(&self, rt: &'a R, alloc: Global, gate: &'a G) -> Run<'a, R, G>
+        requires { 1 ≤ self.now.workers }
+        ensures { result.workers ≡ self.now.workers }
+    {
+        Run {
+            rt,
+            alloc,
+            workers: self.workers,
+            gate,
+        }
+    }
 }

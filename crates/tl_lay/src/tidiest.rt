@@ -24,9 +24,10 @@ use std::mem;
 use std::thread::Threads;
 use tl_base::{Gate, List};
 use tl_cert::{Certificate, Claim};
+use tl_fan::Run;
 use tl_form::{Subject, lay};
 use tl_narrow::Slim;
-use tl_table::{Table, least_width};
+use tl_table::least_width;
 use tl_tidy::{Choice, choose, steps_agree};
 
 /// How a search for the narrowest of the lowest pages ends. Heights are in lines, widths in columns.
@@ -73,84 +74,68 @@ pub fn tidy<R: Threads + Sync, G: Gate>(
 {
     tidied_is_tidiest();
     match read_input(alloc, task, bytes)? {
-        Input::Table(Given { table, budget }) => tidied(rt, alloc, task, &table, budget, gate),
+        Input::Table(given) => tidied(&task.run(rt, alloc, gate), task, &given),
         Input::Refused(refusal) => Ok(Answer::Refused(refusal)),
     }
 }
 
 /// Searches at the width of the page, if it is not too narrow, and trims the lowest page where that is found.
 fn tidied<R: Threads + Sync, G: Gate>(
-    rt: &R,
-    alloc: Global,
+    run: &Run<'_, R, G>,
     task: &Task,
-    table: &Table,
-    budget: u32,
-    gate: &G,
+    given: &Given,
 ) -> Result<Answer, AllocError>
-    requires usable { IsUsableTable task.now table.now budget }
-    ensures { IfOk result (IsTidiedAs task.now table.now) }
+    requires usable { IsUsableTable task.now given.now.table given.now.budget }
+    ensures { IfOk result (IsTidiedAs task.now given.now.table) }
 {
-    let least = least_width(alloc, table, task.style)?;
+    let least = least_width(run.alloc, &given.table, task.style)?;
     if least > task.width {
-        return answer_to(rt, alloc, task, table, budget, gate);
+        return answer_to(run, task, given);
     }
-    tidied_on(rt, alloc, task, table, budget, gate)
+    tidied_on(run, task, given)
 }
 
 /// Searches at the width of the page, and trims the lowest page where that is found.
 fn tidied_on<R: Threads + Sync, G: Gate>(
-    rt: &R,
-    alloc: Global,
+    run: &Run<'_, R, G>,
     task: &Task,
-    table: &Table,
-    budget: u32,
-    gate: &G,
+    given: &Given,
 ) -> Result<Answer, AllocError>
-    requires usable { IsUsableTable task.now table.now budget }
-    requires wide { (least : ℕ) → IsLeastWidth table.now task.now.style least → least ≤ task.now.width }
-    ensures { IfOk result (IsTidiedAs task.now table.now) }
+    requires usable { IsUsableTable task.now given.now.table given.now.budget }
+    requires wide { (least : ℕ) → IsLeastWidth given.now.table task.now.style least → least ≤ task.now.width }
+    ensures { IfOk result (IsTidiedAs task.now given.now.table) }
 {
-    let subject = Subject::of(alloc, table, task.style, task.width)?;
+    let table = &given.table;
+    let budget = given.budget;
+    let subject = Subject::of(run.alloc, table, task.style, task.width)?;
     let FoundPage {
         certificate,
         placed,
-    } = found(rt, alloc, task, &subject, budget, gate)?;
+    } = found(run, task, &subject, budget)?;
     match certificate.claim {
-        Claim::Lowest(height) => trimmed(rt, alloc, task, table, height, certificate, budget, gate),
-        Claim::Bounded(_, _) => laid(rt, alloc, task, table, budget, &certificate, placed),
-        Claim::Narrow(_) => laid(rt, alloc, task, table, budget, &certificate, placed),
+        Claim::Lowest(height) => trimmed(run, task, given, height, certificate),
+        Claim::Bounded(_, _) => laid(run, task, table, budget, &certificate, placed),
+        Claim::Narrow(_) => laid(run, task, table, budget, &certificate, placed),
     }
 }
 
 /// Looks for the narrowest page that is as low as the certificate shows, and chooses among its layouts.
 fn trimmed<R: Threads + Sync, G: Gate>(
-    rt: &R,
-    alloc: Global,
+    run: &Run<'_, R, G>,
     task: &Task,
-    table: &Table,
+    given: &Given,
     height: u32,
     certificate: Certificate,
-    budget: u32,
-    gate: &G,
 ) -> Result<Answer, AllocError>
-    requires usable { IsUsableTable task.now table.now budget }
-    requires wide { (least : ℕ) → IsLeastWidth table.now task.now.style least → least ≤ task.now.width }
-    requires found { IsFound task.now table.now budget certificate }
+    requires usable { IsUsableTable task.now given.now.table given.now.budget }
+    requires wide { (least : ℕ) → IsLeastWidth given.now.table task.now.style least → least ≤ task.now.width }
+    requires found { IsFound task.now given.now.table given.now.budget certificate }
     requires lowest { certificate.claim ≡ claims.Lowest height }
-    ensures { IfOk result (IsTrimmed task.now table.now) }
+    ensures { IfOk result (IsTrimmed task.now given.now.table) }
 {
-    let slim = slimmest_by(
-        rt,
-        alloc,
-        task,
-        table,
-        height,
-        Some(certificate),
-        budget,
-        gate,
-    )?;
-    let end = tidy_end(alloc, task, table, height, budget, slim)?;
-    let evidence = evidence_of(alloc, task, table, height, budget, &end.slim)?;
+    let slim = slimmest_by(run, task, given, height, Some(certificate))?;
+    let end = tidy_end(run.alloc, task, given, height, slim)?;
+    let evidence = evidence_of(run.alloc, task, given, height, &end.slim)?;
     Ok(tidy_answer(end.ending, evidence))
 }
 
@@ -178,16 +163,15 @@ fn tidy_answer(ending: Ending, evidence: Evidence) -> Answer
 fn tidy_end(
     alloc: Global,
     task: &Task,
-    table: &Table,
+    given: &Given,
     height: u32,
-    budget: u32,
     slim: Slim,
 ) -> Result<TidyEnd, AllocError>
-    requires usable { IsUsableTable task.now table.now budget }
-    requires lowest { IsLeastHeight table.now task.now.style task.now.width height }
-    requires slim { IsSlim table.now task.now.style height task.now.width budget slim }
-    ensures ends { IfOk result (λ end. IsTidyEnd task.now table.now height slim end.slim end.ending) }
-    ensures slim { IfOk result (λ end. IsSlim table.now task.now.style height task.now.width budget end.slim) }
+    requires usable { IsUsableTable task.now given.now.table given.now.budget }
+    requires lowest { IsLeastHeight given.now.table task.now.style task.now.width height }
+    requires slim { IsSlim given.now.table task.now.style height task.now.width given.now.budget slim }
+    ensures ends { IfOk result (λ end. IsTidyEnd task.now given.now.table height slim end.slim end.ending) }
+    ensures slim { IfOk result (λ end. IsSlim given.now.table task.now.style height task.now.width given.now.budget end.slim) }
 {
     let width = slim.width;
     let least = slim.least;
@@ -197,7 +181,7 @@ fn tidy_end(
             slim,
         });
     }
-    match kept_widths(alloc, task, table, height, budget, &slim)? {
+    match kept_widths(alloc, task, given, height, &slim)? {
         Some(widths) => Ok(TidyEnd {
             ending: Ending::Tidy { height, width },
             slim: lay_kept(alloc, slim, widths)?,
@@ -213,18 +197,17 @@ fn tidy_end(
 fn kept_widths(
     alloc: Global,
     task: &Task,
-    table: &Table,
+    given: &Given,
     height: u32,
-    budget: u32,
     slim: &Slim,
 ) -> Result<Option<List<u32>>, AllocError>
-    requires usable { IsUsableTable task.now table.now budget }
-    requires slim { IsSlim table.now task.now.style height task.now.width budget slim.now }
+    requires usable { IsUsableTable task.now given.now.table given.now.budget }
+    requires slim { IsSlim given.now.table task.now.style height task.now.width given.now.budget slim.now }
     requires met { slim.now.width ≡ slim.now.least }
-    ensures { IfOk result (AreChosenAmong task.now table.now height slim.now) }
+    ensures { IfOk result (AreChosenAmong task.now given.now.table height slim.now) }
 {
     match &slim.kept {
-        Some(kept) => chosen_widths(alloc, task, table, height, slim.width, budget, kept),
+        Some(kept) => chosen_widths(alloc, task, given, height, slim.width, kept),
         None => Ok(None),
     }
 }
@@ -234,24 +217,24 @@ fn kept_widths(
 fn chosen_widths(
     alloc: Global,
     task: &Task,
-    table: &Table,
+    given: &Given,
     height: u32,
     width: u32,
-    budget: u32,
     certificate: &Certificate,
 ) -> Result<Option<List<u32>>, AllocError>
-    requires usable { IsUsableTable task.now table.now budget }
+    requires usable { IsUsableTable task.now given.now.table given.now.budget }
     requires narrow { width ≤ MAX_PAGE_WIDTH }
-    requires low { IsLowCertificate table.now task.now.style height width budget certificate.now }
-    ensures { IfOk result (AreChosenIn task.now table.now height certificate.now) }
+    requires low { IsLowCertificate given.now.table task.now.style height width given.now.budget certificate.now }
+    ensures { IfOk result (AreChosenIn task.now given.now.table height certificate.now) }
 {
+    let table = &given.table;
     let sections = certificate.sections.as_slice();
     let own = sections.len() - 1;
     let laid = lay(alloc, table, task.style, &sections[..own], &sections[own])?.unwrap();
     if !steps_agree(&laid.problem) {
         return Ok(None);
     }
-    match choose(alloc, &laid.problem, height, budget)? {
+    match choose(alloc, &laid.problem, height, given.budget)? {
         Choice::Found(placed) => Ok(Some(placed.widths)),
         Choice::Open => Ok(None),
     }

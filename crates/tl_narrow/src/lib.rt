@@ -4,11 +4,13 @@
 //! certificates of both ends, and where it ends early the one that was not enough.
 #![tactic(auto)]
 
+mod aim;
 mod certified;
 mod slim;
 mod slim_laws;
 mod trials;
 
+pub use aim::Aim;
 pub use certified::{certificate_of, narrow_certificate};
 pub use slim::{Slim, slimmest};
 pub use slim_laws::{enough_is_not_spent, kept_has_slimmest, met_is_slimmest, slimmest_is_no_less};

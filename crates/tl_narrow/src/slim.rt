@@ -9,11 +9,13 @@ ghost use Rattle.tl_nested.specs.Searched.{AreSectionsOf};
 ghost use Rattle.tl_narrow.specs.Trials.{IsBisection};
 ghost use Rattle.tl_narrow.specs.Slims.{AreSearched, IsLowCertificate, IsSlim};
 
+use crate::aim::Aim;
 use crate::trials::{begin, tried};
-use std::alloc::{AllocError, Global};
+use std::alloc::AllocError;
 use std::thread::Threads;
-use tl_base::{Gate, Style};
+use tl_base::Gate;
 use tl_cert::Certificate;
+use tl_fan::Run;
 use tl_nested::Make;
 use tl_table::Table;
 
@@ -46,47 +48,40 @@ impl Drop for Slim {
     }
 }
 
-/// Finds the narrowest page, of 1 to `most` columns, on which some layout of the table has at most `height`
-/// lines. First the widest page is tried, unless `kept` is its certificate; then, while there are narrower
-/// pages that may be low enough, the one in the middle. A trial searches each section with at most `budget`
-/// cuts, by a solver of its own, and so many `workers` search nested tables at one time. A page whose
-/// height was found to be low enough is the next widest; below one whose lower bound is too high no page
-/// is low enough; a trial that tells neither ends the search. There are at most ten trials, and the
+/// Finds the narrowest page, of 1 to `aim.most` columns, on which some layout of the table has at most
+/// `aim.height` lines. First the widest page is tried, unless `kept` is its certificate; then, while there are
+/// narrower pages that may be low enough, the one in the middle. A trial searches each section with at most
+/// `aim.budget` cuts, by a solver of its own, and as many workers as the run has search nested tables at one
+/// time. A page whose height was found to be low enough is the next widest; below one whose lower bound is too
+/// high no page is low enough; a trial that tells neither ends the search. There are at most ten trials, and the
 /// sections of one are given up before the next, but for those of the certificates that are answered. The
 /// error is out of memory.
 pub fn slimmest<R: Threads + Sync, M: Make, G: Gate>(
-    rt: &R,
-    alloc: Global,
+    run: &Run<'_, R, G>,
     table: &Table,
-    style: Style,
-    height: u32,
-    most: u32,
+    aim: Aim,
     kept: Option<Certificate>,
-    budget: u32,
-    workers: u32,
     maker: &M,
-    gate: &G,
 ) -> Result<Slim, AllocError>
     requires ready { M.can_make maker.now }
-    requires workers { 1 ≤ workers }
     requires sound { IsSound table.now }
     requires cells { HasFewCells table.now }
-    requires some { 1 ≤ most }
-    requires narrow { most ≤ MAX_PAGE_WIDTH }
-    requires cuts { budget ≤ MAX_BUDGET }
-    requires kept { IfSome kept (IsLowCertificate table.now style height most budget) }
-    ensures slim { IfOk result (IsSlim table.now style height most budget) }
+    requires some { 1 ≤ aim.most }
+    requires narrow { aim.most ≤ MAX_PAGE_WIDTH }
+    requires cuts { aim.budget ≤ MAX_BUDGET }
+    requires kept { IfSome kept (IsLowCertificate table.now aim.style aim.height aim.most aim.budget) }
+    ensures slim { IfOk result (IsSlim table.now aim.style aim.height aim.most aim.budget) }
     ensures searched { IfOk result (AreSearched (λ width certificate.
-        AreSectionsOf (λ problem outcome. M.besides maker.now problem budget outcome) table.now style width budget
-        certificate.sections) most kept) }
-    ensures order { IfOk result (λ slim. (own : ℕ) → IsLeastWidth table.now style own → IsBisection (λ width certificate.
-        AreSectionsOf (λ problem outcome. M.besides maker.now problem budget outcome) table.now style width budget
-        certificate.sections) table.now style height most budget kept own slim.least slim.width) }
+        AreSectionsOf (λ problem outcome. M.besides maker.now problem aim.budget outcome) table.now aim.style width aim.budget
+        certificate.sections) aim.most kept) }
+    ensures order { IfOk result (λ slim. (own : ℕ) → IsLeastWidth table.now aim.style own → IsBisection (λ width certificate.
+        AreSectionsOf (λ problem outcome. M.besides maker.now problem aim.budget outcome) table.now aim.style width aim.budget
+        certificate.sections) table.now aim.style aim.height aim.most aim.budget kept own slim.least slim.width) }
 {
-    let mut slim = begin(alloc, table, style, most, kept, budget)?;
-    while let Some(width) = slim.next_trial(most) {
-        let trial = tried(rt, alloc, table, style, width, budget, workers, maker, gate)?;
-        slim.take(height, width, trial);
+    let mut slim = begin(run.alloc, table, aim.style, aim.most, kept, aim.budget)?;
+    while let Some(width) = slim.next_trial(aim.most) {
+        let trial = tried(run, table, aim.style, width, aim.budget, maker)?;
+        slim.take(aim.height, width, trial);
     }
     Ok(slim)
 }

@@ -20,6 +20,7 @@ use std::alloc::{AllocError, Global};
 use std::thread::Threads;
 use tl_base::{Gate, Style};
 use tl_cert::{Certificate, Claim};
+use tl_fan::Run;
 use tl_form::{
     Subject, all_counts_rise, bounded_is_between, budget_closes, counts_exist, open_spends,
 };
@@ -145,18 +146,14 @@ pub fn begin(
 
 /// The certificate of a search on a page of `width` columns.
 pub fn tried<R: Threads + Sync, M: Make, G: Gate>(
-    rt: &R,
-    alloc: Global,
+    run: &Run<'_, R, G>,
     table: &Table,
     style: Style,
     width: u32,
     budget: u32,
-    workers: u32,
     maker: &M,
-    gate: &G,
 ) -> Result<Certificate, AllocError>
     requires ready { M.can_make maker.now }
-    requires workers { 1 ≤ workers }
     requires sound { IsSound table.now }
     requires some { 1 ≤ width }
     requires narrow { width ≤ MAX_PAGE_WIDTH }
@@ -166,13 +163,13 @@ pub fn tried<R: Threads + Sync, M: Make, G: Gate>(
     ensures searched { IfOk result (λ certificate.
         AreSectionsOf (λ problem outcome. M.besides maker.now problem budget outcome) table.now style width budget certificate.sections) }
 {
-    let found = sections(rt, alloc, table, style, width, budget, workers, maker, gate)?;
+    let found = sections(run, table, style, width, budget, maker)?;
     bounded_is_between();
     budget_closes();
     open_spends();
     counts_exist();
     all_counts_rise();
-    Ok(certificate_of(alloc, style, width, budget, found))
+    Ok(certificate_of(run.alloc, style, width, budget, found))
 }
 
 impl Slim {

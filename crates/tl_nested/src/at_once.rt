@@ -20,7 +20,7 @@ use std::cmp::Reverse;
 use std::thread::Threads;
 use tl_base::{Gate, List, Style, total_size};
 use tl_cert::Section;
-use tl_fan::gather;
+use tl_fan::{Run, gather};
 use tl_form::{Due, Subject};
 use tl_problem::Problem;
 use tl_solve::Outcome;
@@ -53,17 +53,13 @@ fn group_sections<
     G: Gate,
     F: Fn(&Problem, u32) -> Result<Outcome, AllocError> + Sync,
 >(
-    rt: &R,
-    alloc: Global,
-    gate: &G,
-    workers: u32,
+    run: &Run<'_, R, G>,
     subject: &Subject,
     budget: u32,
     solve: &F,
     numbers: &[u32],
     told: &[Section],
 ) -> Result<Vec<List<Section>>, AllocError>
-    requires workers { 1 ≤ workers }
     requires subject { IsSubject subject.now }
     requires wide { IsWideEnough subject.now }
     requires cuts { budget ≤ MAX_BUDGET }
@@ -79,9 +75,9 @@ fn group_sections<
             × (own_number (meant subject.now) ≤ number) × (number ≤ subject.now.last) }
         ensures { IfOk result (All (IsFoundFor (GivesOutcome F.Fn solve.entry.now budget) (meant subject.entry.now) budget
             told.entry.now number)) }
-    { table_sections(alloc, subject, number, budget, solve, told) };
+    { table_sections(run.alloc, subject, number, budget, solve, told) };
     let effort = effort_of(subject, numbers);
-    gather(rt, alloc, gate, workers, numbers, effort, &piece)
+    gather(run, numbers, effort, &piece)
 }
 
 /// The sections in the order of a certificate: from the greatest number of a table down, those of one table
@@ -94,22 +90,18 @@ fn sorted(found: List<Section>) -> Result<List<Section>, AllocError>
     Ok(List::from_vec(sections))
 }
 
-/// The sections of all nested tables: those of one depth at once, so many tables at one time, the greatest
-/// depth first.
+/// The sections of all nested tables: those of one depth at once, as many tables at one time as the run has
+/// workers, the greatest depth first.
 pub fn nested_sections<
     R: Threads + Sync,
     G: Gate,
     F: Fn(&Problem, u32) -> Result<Outcome, AllocError> + Sync,
 >(
-    rt: &R,
-    alloc: Global,
-    gate: &G,
-    workers: u32,
+    run: &Run<'_, R, G>,
     subject: &Subject,
     budget: u32,
     solve: &F,
 ) -> Result<List<Section>, AllocError>
-    requires workers { 1 ≤ workers }
     requires subject { IsSubject subject.now }
     requires wide { IsWideEnough subject.now }
     requires cuts { budget ≤ MAX_BUDGET }
@@ -117,6 +109,7 @@ pub fn nested_sections<
     requires solves { SolvesEach F.Fn solve.now budget }
     ensures { IfOk result (λ found. All (IsFoundOn (GivesOutcome F.Fn solve.now budget) (meant subject.now) budget found) found) }
 {
+    let alloc = run.alloc;
     let sizes = sizes_of(alloc, subject)?;
     let depths = depths_of(alloc, sizes.as_slice())?;
     let most = greatest(depths.as_slice());
@@ -124,10 +117,7 @@ pub fn nested_sections<
     for up in 0..most {
         let numbers = at_depth(alloc, subject.table.number, depths.as_slice(), most - up)?;
         let lists = group_sections(
-            rt,
-            alloc,
-            gate,
-            workers,
+            run,
             subject,
             budget,
             solve,

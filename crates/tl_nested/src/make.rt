@@ -16,6 +16,7 @@ use std::alloc::{AllocError, Global};
 use std::thread::Threads;
 use tl_base::{Gate, List, Style};
 use tl_cert::Section;
+use tl_fan::Run;
 use tl_form::Subject;
 use tl_problem::Problem;
 use tl_solve::{Outcome, Solver};
@@ -39,22 +40,18 @@ pub trait Make: Sync {
             Self.Made.besides made problem budget outcome → besides self.now problem budget outcome) };
 }
 
-/// All sections of a certificate of the table on a page of `width` columns, each by a solver of its own. So
-/// many `workers` search nested tables of one depth at one time, each table behind the gate by its number;
-/// the sections are those of a certificate for every number of workers. The error is out of memory.
+/// All sections of a certificate of the table on a page of `width` columns, each by a solver of its own. As
+/// many workers as the run has search nested tables of one depth at one time, each table behind the gate by its
+/// number; the sections are those of a certificate for every number of workers. The error is out of memory.
 pub fn sections<R: Threads + Sync, M: Make, G: Gate>(
-    rt: &R,
-    alloc: Global,
+    run: &Run<'_, R, G>,
     table: &Table,
     style: Style,
     width: u32,
     budget: u32,
-    workers: u32,
     maker: &M,
-    gate: &G,
 ) -> Result<List<Section>, AllocError>
     requires ready { M.can_make maker.now }
-    requires workers { 1 ≤ workers }
     requires sound { IsSound table.now }
     requires narrow { width ≤ MAX_PAGE_WIDTH }
     requires wide { (least : ℕ) → IsLeastWidth table.now style least → least ≤ width }
@@ -63,27 +60,23 @@ pub fn sections<R: Threads + Sync, M: Make, G: Gate>(
         style width budget) }
     ensures writable { IfOk result AreWritable }
 {
-    let subject = Subject::of(alloc, table, style, width)?;
+    let subject = Subject::of(run.alloc, table, style, width)?;
     let LaidSections {
         sections,
         placed: _placed,
-    } = laid_sections(rt, alloc, &subject, budget, workers, maker, gate)?;
+    } = laid_sections(run, &subject, budget, maker)?;
     Ok(sections)
 }
 
 /// The sections of a subject, which `sections` makes of its table, with the placement that was found for the
 /// last of them. The error is out of memory.
 pub fn laid_sections<R: Threads + Sync, M: Make, G: Gate>(
-    rt: &R,
-    alloc: Global,
+    run: &Run<'_, R, G>,
     subject: &Subject,
     budget: u32,
-    workers: u32,
     maker: &M,
-    gate: &G,
 ) -> Result<LaidSections, AllocError>
     requires ready { M.can_make maker.now }
-    requires workers { 1 ≤ workers }
     requires subject { IsSubject subject.now }
     requires wide { IsWideEnough subject.now }
     requires cuts { budget ≤ MAX_BUDGET }
@@ -97,6 +90,6 @@ pub fn laid_sections<R: Threads + Sync, M: Make, G: Gate>(
         requires { M.can_make maker.now × (budget ≤ MAX_BUDGET) }
         ensures solved { IfOk result (IsSolverOutcome problem.now budget) }
         ensures besides { IfOk result (λ outcome. M.besides maker.entry.now problem.now budget outcome) }
-    { maker.make(alloc)?.solve(problem, budget) };
-    sections_by(rt, alloc, subject, budget, workers, &solve, gate)
+    { maker.make(run.alloc)?.solve(problem, budget) };
+    sections_by(run, subject, budget, &solve)
 }

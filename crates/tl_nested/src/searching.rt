@@ -17,6 +17,7 @@ use std::alloc::{AllocError, Global};
 use std::thread::Threads;
 use tl_base::{Gate, List};
 use tl_cert::Section;
+use tl_fan::Run;
 use tl_form::{Due, Subject, problem_for, sections_give_sound_problems};
 use tl_problem::{Placed, Problem};
 use tl_solve::Outcome;
@@ -59,22 +60,18 @@ pub struct LaidSections {
 /// of the last section is the one that its search found, made tight.
 ///
 /// Nested tables of one depth do not need one another: from the greatest depth on, those of one depth are
-/// searched by so many `workers` at one time, each table a piece of work behind the gate by its number. What
-/// is still due after them is searched one after the other; that is the table itself.
+/// searched by as many workers at one time as the run has, each table a piece of work behind the gate by its
+/// number. What is still due after them is searched one after the other; that is the table itself.
 pub fn sections_by<
     R: Threads + Sync,
     G: Gate,
     F: Fn(&Problem, u32) -> Result<Outcome, AllocError> + Sync,
 >(
-    rt: &R,
-    alloc: Global,
+    run: &Run<'_, R, G>,
     subject: &Subject,
     budget: u32,
-    workers: u32,
     solve: &F,
-    gate: &G,
 ) -> Result<LaidSections, AllocError>
-    requires workers { 1 ≤ workers }
     requires subject { IsSubject subject.now }
     requires wide { IsWideEnough subject.now }
     requires cuts { budget ≤ MAX_BUDGET }
@@ -87,14 +84,14 @@ pub fn sections_by<
         laid.sections laid.placed) }
 {
     sections_give_sound_problems();
-    let found = nested_sections(rt, alloc, gate, workers, subject, budget, solve)?;
+    let found = nested_sections(run, subject, budget, solve)?;
     let Begun {
         mut sections,
         mut due,
-    } = begin(alloc, subject, found);
+    } = begin(run.alloc, subject, found);
     loop {
         let Found { section, placed } = search(
-            alloc,
+            run.alloc,
             subject,
             due,
             budget,

@@ -8,11 +8,13 @@ ghost use Rattle.tl_program.specs.declared.report.Report.TheVariants as reports;
 ghost use Rattle.tl_program.specs.Asks.{judged_name};
 ghost use Rattle.tl_program.specs.Checks.{IsJudgedIn};
 ghost use Rattle.tl_program.specs.ReadFaults.{FailsToJudge, FailsToLoad};
+ghost use Rattle.tl_program.specs.Tasks.{task_of};
 ghost use Rattle.tl_program.specs.inner.Steps.{ReportsOn};
 
 use crate::input::load;
 use crate::names::judged_name;
 use crate::report::Report;
+use crate::task::task_of;
 use std::alloc::{AllocError, Global};
 use std::thread::Threads;
 use tl_base::{Desk, Gate, MAX_CERTIFICATE_BYTES};
@@ -25,55 +27,56 @@ pub fn checked<R: Threads + Sync, D: Desk, G: Gate>(
     rt: &R,
     alloc: Global,
     ask: &Ask<'_>,
-    task: &Task,
     bytes: &[u8],
     desk: &mut D,
     gate: &G,
 ) -> Result<Report, AllocError>
     requires names { 2 ≤ length ask.now.names.now }
-    requires range { IsTaskInRange task.now }
+    requires range { IsTaskInRange (task_of (asked_by ask.now)) }
     ensures report { IfOk result (λ report.
         ((report ≡ reports.ReadFault) × Rose (D.load_faults desk.old) (D.load_faults desk.new))
-        ⊎ ReportsOn task.now (λ table. IsJudgedIn task.now table (D.files desk.old) (judged_name (asked_by ask.now)) report)
-        bytes.now report) }
+        ⊎ ReportsOn (task_of (asked_by ask.now)) (λ table. IsJudgedIn (task_of (asked_by ask.now)) table
+        (D.files desk.old) (judged_name (asked_by ask.now)) report) bytes.now report) }
     ensures fault { IfOk result (λ report. report ≡ reports.ReadFault
-        → FailsToJudge D.Desk desk.old desk.new task.now bytes.now (judged_name (asked_by ask.now))) }
+        → FailsToJudge D.Desk desk.old desk.new (task_of (asked_by ask.now)) bytes.now (judged_name (asked_by ask.now))) }
     ensures files_stay { D.files desk.new ≡ D.files desk.old }
     ensures said_stays { D.said desk.new ≡ D.said desk.old }
     ensures writes_stay { D.write_faults desk.new ≡ D.write_faults desk.old }
 {
+    let task = task_of(ask);
     if task.workers > 1 {
-        return checked_at_once(rt, alloc, ask, task, bytes, desk, gate);
+        return checked_at_once(rt, alloc, ask, bytes, desk, gate);
     }
-    match read_input(alloc, task, bytes)? {
-        Input::Table(given) => judged_file(rt, alloc, judged_name(ask), task, &given, desk, gate),
+    match read_input(alloc, &task, bytes)? {
+        Input::Table(given) => judged_file(rt, alloc, ask, &given, desk, gate),
         Input::Refused(refusal) => Ok(Report::Refused(refusal)),
     }
 }
 
-/// What is reported of the certificate in the file of this name, for a table.
+/// What is reported of the certificate in the file that is named, for a table.
 fn judged_file<R: Threads + Sync, D: Desk, G: Gate>(
     rt: &R,
     alloc: Global,
-    name: &str,
-    task: &Task,
+    ask: &Ask<'_>,
     given: &Given,
     desk: &mut D,
     gate: &G,
 ) -> Result<Report, AllocError>
-    requires usable { IsUsableTable task.now given.now.table given.now.budget }
+    requires names { 2 ≤ length ask.now.names.now }
+    requires usable { IsUsableTable (task_of (asked_by ask.now)) given.now.table given.now.budget }
     ensures report { IfOk result (λ report.
         ((report ≡ reports.ReadFault) × Rose (D.load_faults desk.old) (D.load_faults desk.new))
-        ⊎ IsJudgedIn task.now given.now.table (D.files desk.old) name.now report) }
-    ensures fault { IfOk result (λ report. report ≡ reports.ReadFault → FailsToLoad D.Desk desk.old desk.new name.now) }
+        ⊎ IsJudgedIn (task_of (asked_by ask.now)) given.now.table (D.files desk.old) (judged_name (asked_by ask.now)) report) }
+    ensures fault { IfOk result (λ report. report ≡ reports.ReadFault
+        → FailsToLoad D.Desk desk.old desk.new (judged_name (asked_by ask.now))) }
     ensures files_stay { D.files desk.new ≡ D.files desk.old }
     ensures said_stays { D.said desk.new ≡ D.said desk.old }
     ensures writes_stay { D.write_faults desk.new ≡ D.write_faults desk.old }
 {
-    let Some(text) = load(desk, name, MAX_CERTIFICATE_BYTES as u32)? else {
+    let Some(text) = load(desk, judged_name(ask), MAX_CERTIFICATE_BYTES as u32)? else {
         return Ok(Report::ReadFault);
     };
-    let verdict = judge_text(rt, alloc, task, given, text.as_slice(), gate)?;
+    let verdict = judge_text(rt, alloc, &task_of(ask), given, text.as_slice(), gate)?;
     Ok(Report::of_verdict(verdict))
 }
 
@@ -83,27 +86,27 @@ fn checked_at_once<R: Threads + Sync, D: Desk, G: Gate>(
     rt: &R,
     alloc: Global,
     ask: &Ask<'_>,
-    task: &Task,
     bytes: &[u8],
     desk: &mut D,
     gate: &G,
 ) -> Result<Report, AllocError>
     requires names { 2 ≤ length ask.now.names.now }
-    requires range { IsTaskInRange task.now }
+    requires range { IsTaskInRange (task_of (asked_by ask.now)) }
     ensures report { IfOk result (λ report.
         ((report ≡ reports.ReadFault) × Rose (D.load_faults desk.old) (D.load_faults desk.new))
-        ⊎ ReportsOn task.now (λ table. IsJudgedIn task.now table (D.files desk.old) (judged_name (asked_by ask.now)) report)
-        bytes.now report) }
+        ⊎ ReportsOn (task_of (asked_by ask.now)) (λ table. IsJudgedIn (task_of (asked_by ask.now)) table
+        (D.files desk.old) (judged_name (asked_by ask.now)) report) bytes.now report) }
     ensures fault { IfOk result (λ report. report ≡ reports.ReadFault
-        → FailsToJudge D.Desk desk.old desk.new task.now bytes.now (judged_name (asked_by ask.now))) }
+        → FailsToJudge D.Desk desk.old desk.new (task_of (asked_by ask.now)) bytes.now (judged_name (asked_by ask.now))) }
     ensures files_stay { D.files desk.new ≡ D.files desk.old }
     ensures said_stays { D.said desk.new ≡ D.said desk.old }
     ensures writes_stay { D.write_faults desk.new ≡ D.write_faults desk.old }
 {
+    let task = task_of(ask);
     let Some(text) = load(desk, judged_name(ask), MAX_CERTIFICATE_BYTES as u32)? else {
-        return unread(alloc, task, bytes);
+        return unread(alloc, &task, bytes);
     };
-    let verdict = check(rt, alloc, task, bytes, text.as_slice(), gate)?;
+    let verdict = check(rt, alloc, &task, bytes, text.as_slice(), gate)?;
     Ok(Report::of_verdict(verdict))
 }
 

@@ -191,9 +191,8 @@ fn check_file<R: Threads + Sync, D: Desk, G: Gate>(
         (between D.Desk desk.old desk.new) (status_number result) }
     ensures read_fault { result ≡ statuses.ReadFault → FailsToRead D.Desk desk.old desk.new (asked_by ask.now) }
 {
-    let task = task_of(ask);
     match load_input(alloc, ask, desk) {
-        Ok(bytes) => match checked(rt, alloc, ask, &task, bytes.as_slice(), desk, gate) {
+        Ok(bytes) => match checked(rt, alloc, ask, bytes.as_slice(), desk, gate) {
             Ok(report) => deliver(alloc, desk, report, &[]),
             Err(_) => Status::Memory,
         },

@@ -7,10 +7,10 @@ ghost use Rattle.tl_problem.specs.Zones.{IsZone};
 ghost use Rattle.tl_solve.specs.Piece.{IsPieceOf};
 ghost use Rattle.tl_rounds.specs.Fans.{ArePiecesOf};
 
-use std::alloc::{AllocError, Global};
+use std::alloc::AllocError;
 use std::thread::Threads;
 use tl_base::{Gate, MAX_BUDGET};
-use tl_fan::{gather, places};
+use tl_fan::{Run, gather, places};
 use tl_problem::{Problem, Zone};
 use tl_solve::{MakePiece, Piece, PieceSolver};
 
@@ -18,36 +18,32 @@ use tl_solve::{MakePiece, Piece, PieceSolver};
 const CUT_TIME: u64 = 20;
 
 /// A piece of each of the zones, in their order, each by a search of its own for layouts of less than `best`
-/// lines with at most `quota` cuts. So many `workers` search at one time, each behind the gate by the
-/// place of its zone.
+/// lines with at most `quota` cuts. As many search at one time as the run has workers, each behind the gate by
+/// the place of its zone.
 pub fn pieces_at_once<R: Threads + Sync, G: Gate, P: MakePiece>(
-    rt: &R,
-    alloc: Global,
-    gate: &G,
-    workers: u32,
+    run: &Run<'_, R, G>,
     maker: &P,
     problem: &Problem,
     zones: &[Zone],
     best: u32,
     quota: u32,
 ) -> Result<Vec<Piece>, AllocError>
-    requires workers { 1 ≤ workers }
     requires zones { All (IsZone problem.now) zones.now }
     requires few { length zones.now < 2 ^ 32 }
     requires some { 1 ≤ quota }
     requires quota { quota ≤ MAX_BUDGET }
     ensures { IfOk result (λ pieces. ArePiecesOf problem.now zones.now best quota pieces.items) }
 {
-    let numbers = places(alloc, zones.len() as u32)?;
+    let numbers = places(run.alloc, zones.len() as u32)?;
     let piece = |number: u32| -> Result<Piece, AllocError>
         requires { (number < length zones.now) × All (IsZone problem.now) zones.now × (1 ≤ quota) × (quota ≤ MAX_BUDGET) }
         ensures { IfOk result (λ piece. IsPieceOf problem.entry.now (slice_index_or zones.entry.now number []) best quota
             piece.best piece.trace piece.lefts) }
     {
-        let mut search = maker.make(alloc)?;
+        let mut search = maker.make(run.alloc)?;
         search.piece(problem, &zones[number as usize], best, quota)
     };
     let cuts = u64::from(quota).saturating_mul(zones.len() as u64);
     let effort = cuts.saturating_mul(CUT_TIME);
-    gather(rt, alloc, gate, workers, numbers.as_slice(), effort, &piece)
+    gather(run, numbers.as_slice(), effort, &piece)
 }

@@ -15,6 +15,7 @@ use std::test::Fail;
 use std::thread::Threads;
 use tl_base::{Gate, NoGate};
 use tl_branch::{Learn, MakeLearnPiece};
+use tl_fan::Run;
 use tl_problem::{Problem, Zone};
 use tl_rounds::{Book, Rounds, pieces_at_once, pieces_stay};
 use tl_solve::{Outcome, Piece, PieceSolver, Solver};
@@ -117,14 +118,20 @@ fn searched<R: Threads + Sync, G: Gate>(
     requires workers { 1 ≤ workers }
     requires budget { budget ≤ MAX_BUDGET }
 {
+    let run = Run {
+        rt,
+        alloc,
+        workers,
+        gate,
+    };
     let maker = MakeLearnPiece::new();
     let fan = |of: &Problem, zones: &[Zone], best: u32, quota: u32| -> Result<
         Vec<Piece>,
         AllocError,
     >
-        requires { (1 ≤ workers) × All (IsZone of.now) zones.now × (length zones.now < 2 ^ 32) × (1 ≤ quota) × (quota ≤ MAX_BUDGET) }
+        requires { All (IsZone of.now) zones.now × (length zones.now < 2 ^ 32) × (1 ≤ quota) × (quota ≤ MAX_BUDGET) }
         ensures { IfOk result (λ pieces. ArePiecesOf of.entry.now zones.entry.now best quota pieces.items) }
-    { pieces_at_once(rt, alloc, gate, workers, &maker, of, zones, best, quota) };
+    { pieces_at_once(&run, &maker, of, zones, best, quota) };
     let outcome = search(alloc, problem, workers, budget, &fan)?;
     if !is_accepted(alloc, problem, &outcome)? {
         return Err("the checker does not accept the log".into());

@@ -23,7 +23,7 @@ use std::thread::Threads;
 use tl_base::{Gate, Style, total_size};
 use tl_cert::{Certificate, Section};
 use tl_check::Checker;
-use tl_fan::{fan_out, places};
+use tl_fan::{Run, fan_out, places};
 use tl_form::{Due, Subject, lay};
 use tl_problem::Problem;
 
@@ -150,19 +150,15 @@ fn effort_of(certificate: &Certificate, count: u32) -> u64
     size.saturating_mul(SIZE_TIME) / 1000
 }
 
-/// Judges so many sections from the first on, which are in order, so many at once: the error of the first
-/// one that is not good, if there is one.
+/// Judges so many sections from the first on, which are in order, as many at once as the run has workers: the
+/// error of the first one that is not good, if there is one.
 fn judge_each<R: Threads + Sync, G: Gate>(
-    rt: &R,
-    alloc: Global,
-    gate: &G,
-    workers: u32,
+    run: &Run<'_, R, G>,
     subject: &Subject,
     budget: u32,
     certificate: &Certificate,
     count: u32,
 ) -> Result<(), Reject>
-    requires workers { 1 ≤ workers }
     requires subject { IsSubject subject.now }
     requires written { IsWritable certificate.now }
     requires start { IsGoodUpTo (meant subject.now) budget certificate.now 0 }
@@ -176,25 +172,21 @@ fn judge_each<R: Threads + Sync, G: Gate>(
             × IsGoodUpTo (meant subject.now) budget certificate.now 0
             × AreDueInOrder (meant subject.now) certificate.now.sections (number + 1) }
         ensures { IsSectionJudged (meant subject.entry.now) budget certificate.entry.now number result }
-    { judge(alloc, subject, budget, certificate, number) };
-    let numbers = places(alloc, count)?;
+    { judge(run.alloc, subject, budget, certificate, number) };
+    let numbers = places(run.alloc, count)?;
     let effort = effort_of(certificate, count);
-    let judged = fan_out(rt, alloc, gate, workers, numbers.as_slice(), effort, &piece)?;
+    let judged = fan_out(run, numbers.as_slice(), effort, &piece)?;
     first_refusal(judged)
 }
 
-/// Judges all sections: each is the one that is due and good, and none is missing or left. So many of them
-/// are judged at once, each behind the gate by its number.
+/// Judges all sections: each is the one that is due and good, and none is missing or left. As many of them are
+/// judged at once as the run has workers, each behind the gate by its number.
 pub fn judge_all<R: Threads + Sync, G: Gate>(
-    rt: &R,
-    alloc: Global,
-    gate: &G,
-    workers: u32,
+    run: &Run<'_, R, G>,
     subject: &Subject,
     budget: u32,
     certificate: &Certificate,
 ) -> Result<(), Reject>
-    requires workers { 1 ≤ workers }
     requires subject { IsSubject subject.now }
     requires written { IsWritable certificate.now }
     requires start { IsGoodUpTo (meant subject.now) budget certificate.now 0 }
@@ -202,16 +194,7 @@ pub fn judge_all<R: Threads + Sync, G: Gate>(
     ensures wrong { IfErr result (IsMemoryOr (Memory alloc_error) (IsReason (meant subject.now) budget certificate.now)) }
 {
     let Order { count, due } = in_order(subject, certificate);
-    judge_each(
-        rt,
-        alloc,
-        gate,
-        workers,
-        subject,
-        budget,
-        certificate,
-        count,
-    )?;
+    judge_each(run, subject, budget, certificate, count)?;
     if let Some(now) = due {
         return Err(Reject::Missing(now.table));
     }

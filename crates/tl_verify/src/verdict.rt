@@ -16,10 +16,10 @@ use crate::chains::are_too_wide;
 use crate::claim::{ends_with, is_claim_for};
 use crate::reject::Reject;
 use crate::sections::judge_all;
-use std::alloc::Global;
 use std::thread::Threads;
 use tl_base::{Gate, Style};
 use tl_cert::{Certificate, Claim};
+use tl_fan::Run;
 use tl_form::Subject;
 use tl_table::Table;
 
@@ -45,17 +45,13 @@ fn verdict_on(claim: Claim) -> Verdict
     }
 }
 
-/// Judges what shows the claim: chains, or sections, so many at once.
+/// Judges what shows the claim: chains, or sections, as many at once as the run has workers.
 fn judge_proof<R: Threads + Sync, G: Gate>(
-    rt: &R,
-    alloc: Global,
-    gate: &G,
-    workers: u32,
+    run: &Run<'_, R, G>,
     subject: &Subject,
     budget: u32,
     certificate: &Certificate,
 ) -> Result<(), Reject>
-    requires workers { 1 ≤ workers }
     requires subject { IsSubject subject.now }
     requires written { IsWritable certificate.now }
     requires claim { IsClaimFor (meant subject.now) budget certificate.now }
@@ -69,7 +65,7 @@ fn judge_proof<R: Threads + Sync, G: Gate>(
         }
         return Err(Reject::Chain);
     }
-    judge_all(rt, alloc, gate, workers, subject, budget, certificate)?;
+    judge_all(run, subject, budget, certificate)?;
     if ends_with(certificate.claim, certificate.sections.as_slice()) {
         return Ok(());
     }
@@ -81,20 +77,16 @@ fn judge_proof<R: Threads + Sync, G: Gate>(
 /// page, style and budget, and says that the page is too narrow exactly where it is; chains show that;
 /// each section that is due, from the greatest number of a table down, has a tight placement, a trace
 /// that was worked for the budget, and a log that is good; none is left; the claim has the numbers of
-/// the last. So many `workers` judge sections at one time, each behind the gate by its number; the answer is
-/// the same for every number of workers and every gate.
+/// the last. As many workers as the run has judge sections at one time, each behind the gate by its number; the
+/// answer is the same for every number of workers and every gate.
 pub fn verify<R: Threads + Sync, G: Gate>(
-    rt: &R,
-    alloc: Global,
+    run: &Run<'_, R, G>,
     table: &Table,
     style: Style,
     width: u32,
     budget: u32,
-    workers: u32,
     certificate: &Certificate,
-    gate: &G,
 ) -> Result<Verdict, Reject>
-    requires workers { 1 ≤ workers }
     requires sound { IsSound table.now }
     requires some { 1 ≤ width }
     requires narrow { width ≤ MAX_PAGE_WIDTH }
@@ -110,10 +102,10 @@ pub fn verify<R: Threads + Sync, G: Gate>(
     ensures refuses { (reject : Reject) → IsRefusedAs table.now style width budget certificate.now reject →
         ReturnsError (Memory alloc_error) reject result }
 {
-    let subject = Subject::of(alloc, table, style, width)?;
+    let subject = Subject::of(run.alloc, table, style, width)?;
     if !is_claim_for(&subject, budget, certificate) {
         return Err(Reject::Claim);
     }
-    judge_proof(rt, alloc, gate, workers, &subject, budget, certificate)?;
+    judge_proof(run, &subject, budget, certificate)?;
     Ok(verdict_on(certificate.claim))
 }

@@ -10,17 +10,17 @@ use Rattle.tl_lay.proofs.tidiest.chosen_widths.Goals as goal
 pub lay-requires-clause-wide : goal.lay-requires-clause-wide
 lay-requires-clause-wide c =
     let section = c.index-sections-own.result in
-    section_wide c.args.table.now c.args.task.now.style c.args.height c.args.width c.args.budget c.requires.usable.sound
+    section_wide c.args.given.now.table c.args.task.now.style c.args.height c.args.width c.args.given.now.budget c.requires.usable.sound
     c.args.certificate.now c.requires.low section
     (subst (λ (all : List Section). section ≡ get_or all (length all - 1) section) c.as_slice-sections.ensures
     c.index-sections-own.is)
 
 pub unwrap-laid-requires : goal.unwrap-laid-requires
 unwrap-laid-requires c =
-    let table = c.args.table.now in
+    let table = c.args.given.now.table in
     let style = c.args.task.now.style in
     let section = c.index-sections-own.result in
-    laid_found table style c.args.height c.args.width c.args.budget c.requires.usable.sound
+    laid_found table style c.args.height c.args.width c.args.given.now.budget c.requires.usable.sound
     c.args.certificate.now c.requires.low section
     (subst (λ (all : List Section). section ≡ get_or all (length all - 1) section) c.as_slice-sections.ensures
     c.index-sections-own.is) c.in_ok-lay.field-0
@@ -30,7 +30,7 @@ unwrap-laid-requires c =
 
 pub returns-then-not-steps_agree : goal.returns-then-not-steps_agree
 returns-then-not-steps_agree c =
-    let table = c.args.table.now in
+    let table = c.args.given.now.table in
     let style = c.args.task.now.style in
     let section = c.index-sections-own.result in
     let all = c.args.certificate.now.sections in
@@ -41,7 +41,7 @@ returns-then-not-steps_agree c =
     (IsNeverLaid table style section (take (length all - 1) all)) (IsLaidOn table style section (take (length all - 1) all)))
     c.as_slice-sections.ensures c.in_ok-lay.ensures) in (
       c.unwrap-laid.result.problem,
-      own_of table style c.args.height c.args.width c.args.budget c.requires.usable.sound c.args.certificate.now c.requires.low
+      own_of table style c.args.height c.args.width c.args.given.now.budget c.requires.usable.sound c.args.certificate.now c.requires.low
           section
           (subst (λ (all : List Section). section ≡ get_or all (length all - 1) section) c.as_slice-sections.ensures
           c.index-sections-own.is) c.unwrap-laid.result both,
@@ -50,7 +50,7 @@ returns-then-not-steps_agree c =
 
 pub choose-requires-clause-some : goal.choose-requires-clause-some
 choose-requires-clause-some c =
-    let table = c.args.table.now in
+    let table = c.args.given.now.table in
     let style = c.args.task.now.style in
     let section = c.index-sections-own.result in
     let all = c.args.certificate.now.sections in
@@ -60,14 +60,14 @@ choose-requires-clause-some c =
     (subst (λ (all : List Section). MatchOption c.in_ok-lay.field-0
     (IsNeverLaid table style section (take (length all - 1) all)) (IsLaidOn table style section (take (length all - 1) all)))
     c.as_slice-sections.ensures c.in_ok-lay.ensures) in
-    low_of table style c.args.height c.args.width c.args.budget c.requires.usable.sound c.args.certificate.now c.requires.low
+    low_of table style c.args.height c.args.width c.args.given.now.budget c.requires.usable.sound c.args.certificate.now c.requires.low
     section
     (subst (λ (all : List Section). section ≡ get_or all (length all - 1) section) c.as_slice-sections.ensures
     c.index-sections-own.is) c.unwrap-laid.result both
 
 pub returns-in-Found : goal.returns-in-Found
 returns-in-Found c =
-    let table = c.args.table.now in
+    let table = c.args.given.now.table in
     let style = c.args.task.now.style in
     let section = c.index-sections-own.result in
     let all = c.args.certificate.now.sections in
@@ -78,18 +78,18 @@ returns-in-Found c =
     (IsNeverLaid table style section (take (length all - 1) all)) (IsLaidOn table style section (take (length all - 1) all)))
     c.as_slice-sections.ensures c.in_ok-lay.ensures) in (
       c.unwrap-laid.result.problem,
-      own_of table style c.args.height c.args.width c.args.budget c.requires.usable.sound c.args.certificate.now c.requires.low
+      own_of table style c.args.height c.args.width c.args.given.now.budget c.requires.usable.sound c.args.certificate.now c.requires.low
           section
           (subst (λ (all : List Section). section ≡ get_or all (length all - 1) section) c.as_slice-sections.ensures
           c.index-sections-own.is) c.unwrap-laid.result both,
-      found_here c.args.task.now table c.args.height c.args.budget c.unwrap-laid.result.problem c.in_ok-placed.field-0
+      found_here c.args.task.now table c.args.height c.args.given.now.budget c.unwrap-laid.result.problem c.in_ok-placed.field-0
           c.in-Found.placed c.requires.usable.of_task c.in-Found.is (c.steps_agree.ensures.same.0 c.if-not-steps_agree.false)
           c.in_ok-placed.ensures.found c.in_ok-placed.ensures.low c.in_ok-placed.ensures.enough,
     )
 
 pub returns : goal.returns
 returns c =
-    let table = c.args.table.now in
+    let table = c.args.given.now.table in
     let style = c.args.task.now.style in
     let section = c.index-sections-own.result in
     let all = c.args.certificate.now.sections in
@@ -100,10 +100,10 @@ returns c =
     (IsNeverLaid table style section (take (length all - 1) all)) (IsLaidOn table style section (take (length all - 1) all)))
     c.as_slice-sections.ensures c.in_ok-lay.ensures) in (
       c.unwrap-laid.result.problem,
-      own_of table style c.args.height c.args.width c.args.budget c.requires.usable.sound c.args.certificate.now c.requires.low
+      own_of table style c.args.height c.args.width c.args.given.now.budget c.requires.usable.sound c.args.certificate.now c.requires.low
           section
           (subst (λ (all : List Section). section ≡ get_or all (length all - 1) section) c.as_slice-sections.ensures
           c.index-sections-own.is) c.unwrap-laid.result both,
-      open_here c.args.task.now table c.args.height c.args.budget c.unwrap-laid.result.problem c.in_ok-placed.field-0
+      open_here c.args.task.now table c.args.height c.args.given.now.budget c.unwrap-laid.result.problem c.in_ok-placed.field-0
           c.requires.usable.of_task c.in-Open.is c.in_ok-placed.ensures.above c.in_ok-placed.ensures.count,
     )

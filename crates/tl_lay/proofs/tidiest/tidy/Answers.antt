@@ -8,8 +8,8 @@ use Rattle.tl_lay.proofs.tidiest.tidy.Goals as goal
 pub returns-in-Table-clause-tidied : goal.returns-in-Table-clause-tidied
 returns-in-Table-clause-tidied g c =
     let task = c.args.task.now in
-    answered_given task c.args.bytes.now c.in_ok-table.field-0 c.in-Table.field-0 (IsTidiedAs task) c.tidied.result
-    c.in_ok-table.ensures.given c.in-Table.is c.tidied.ensures
+    answered_given task c.args.bytes.now c.in_ok-given.field-0 c.in-Table.given (IsTidiedAs task) c.tidied.result
+    c.in_ok-given.ensures.given c.in-Table.is c.tidied.ensures
 
 pub returns-in-Table-clause-tidies : goal.returns-in-Table-clause-tidies
 returns-in-Table-clause-tidies g c =
@@ -17,5 +17,5 @@ returns-in-Table-clause-tidies g c =
     let bytes = c.args.bytes.now in
     IfOk-weaker c.tidied.result (IsTidied task bytes) (Tidies task bytes)
     (λ answer. c.tidied_is_tidiest.ensures task bytes answer c.requires.range)
-    (answered_given task bytes c.in_ok-table.field-0 c.in-Table.field-0 (IsTidiedAs task) c.tidied.result
-    c.in_ok-table.ensures.given c.in-Table.is c.tidied.ensures)
+    (answered_given task bytes c.in_ok-given.field-0 c.in-Table.given (IsTidiedAs task) c.tidied.result
+    c.in_ok-given.ensures.given c.in-Table.is c.tidied.ensures)

@@ -1,9 +1,8 @@
 -- What the files of a check come to is reported.
-use Rattle.std.proofs.Common.{◌≡◌, ◌⊎◌, List, ℕ, Option, inr, ◌∙◌, subst}
+use Rattle.std.proofs.Common.{◌≡◌, ◌⊎◌, List, ℕ, Option, inr, refl, ◌∙◌, subst}
 use Rattle.tl_base.specs.Desk.{Files, Rose}
 use Rattle.tl_command.specs.declared.command.Command.TheVariants.{Check}
 use Rattle.tl_command.specs.Ask.{asked_by}
-use Rattle.tl_lay.specs.declared.task.Task.{Task}
 use Rattle.tl_program.specs.declared.report.Report.TheVariants as reports
 use Rattle.tl_program.specs.Asks.{judged_name}
 use Rattle.tl_program.specs.Change.{between}
@@ -36,12 +35,9 @@ returns-in-Ok-checked-clause-ends g c = λ words is.
     c.in-Ok.ensures.counts c.deliver.ensures.loads_stay
     (subst (λ (files : Option Files). Fault ⊎ ReportsOn (task_of asked)
     (λ table. IsJudgedIn (task_of asked) table files (judged_name asked) report) c.in-Ok.bytes report) c.in-Ok.ensures.files_stay
-    (subst (λ (task : Task). Fault ⊎ ReportsOn task
-    (λ table. IsJudgedIn task table (g.D.Desk.files c.load_input.new.desk) (judged_name asked) report) c.in-Ok.bytes report)
-    c.task_of-task.ensures
-    (subst (λ (bytes : List ℕ). Fault ⊎ ReportsOn c.task_of-task.result
-    (λ table. IsJudgedIn c.task_of-task.result table (g.D.Desk.files c.load_input.new.desk) (judged_name asked) report) bytes
-    report) c.as_slice.ensures c.in-Ok-checked.ensures.report))))) c.deliver.ensures.delivered
+    (subst (λ (bytes : List ℕ). Fault ⊎ ReportsOn (task_of asked)
+    (λ table. IsJudgedIn (task_of asked) table (g.D.Desk.files c.load_input.new.desk) (judged_name asked) report) bytes
+    report) c.as_slice.ensures c.in-Ok-checked.ensures.report)))) c.deliver.ensures.delivered
 
 pub returns-in-Ok-checked-clause-read_fault : goal.returns-in-Ok-checked-clause-read_fault
 returns-in-Ok-checked-clause-read_fault g c = λ same.
@@ -50,9 +46,9 @@ returns-in-Ok-checked-clause-read_fault g c = λ same.
     let fault = delivered_fault c.deliver.result second (reported c.in-Ok-checked.report) c.deliver.ensures.delivered same in
     inr (
       c.requires.command,
-      check_fails g.D.Desk c.args.desk.now c.load_input.new.desk c.checked.new.desk c.deliver.new.desk asked c.task_of-task.result
-          c.in-Ok.bytes c.task_of-task.ensures (record { short = c.in-Ok.ensures.short; read = c.in-Ok.ensures.read })
+      check_fails g.D.Desk c.args.desk.now c.load_input.new.desk c.checked.new.desk c.deliver.new.desk asked (task_of asked)
+          c.in-Ok.bytes refl (record { short = c.in-Ok.ensures.short; read = c.in-Ok.ensures.read })
           c.in-Ok.ensures.files_stay c.in-Ok.ensures.said_stays c.in-Ok.ensures.counts c.deliver.ensures.loads_stay
-          (subst (λ (bytes : List ℕ). FailsToJudge g.D.Desk c.load_input.new.desk c.checked.new.desk c.task_of-task.result bytes
+          (subst (λ (bytes : List ℕ). FailsToJudge g.D.Desk c.load_input.new.desk c.checked.new.desk (task_of asked) bytes
           (judged_name asked)) c.as_slice.ensures (c.in-Ok-checked.ensures.fault fault)),
     )

@@ -10,8 +10,8 @@ use Rattle.tl_rounds.specs.Fans.{ArePiecesOf}
 use Rattle.tl_rounds.proofs.Places.{by-numbers}
 use Rattle.tl_rounds.proofs.fan.pieces_at_once.Goals as goal
 
-pub gather-requires-clause-pieces : goal.gather-requires-clause-pieces
-gather-requires-clause-pieces g c κs within = λ k d less.
+pub gather-requires-after_bounds : goal.gather-requires-after_bounds
+gather-requires-after_bounds g c κs within = λ k d less.
     let all : c.as_slice.result.now ≡ range_with_len 0 (length c.args.zones.now) = c.as_slice.ensures.value ∙ c.in_ok-numbers.ensures in
     let here : k < length c.args.zones.now = omega (arith, less, ap length all, length-range_with_len 0 (length c.args.zones.now)) in
     let at : get_or c.as_slice.result.now k d ≡ 0 + k =

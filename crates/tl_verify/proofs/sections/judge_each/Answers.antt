@@ -7,8 +7,8 @@ use Rattle.tl_verify.specs.inner.Sections.{IsSectionJudged}
 use Rattle.tl_verify.proofs.AllJudged.{judged_by_number, judged_good, judged_wrong}
 use Rattle.tl_verify.proofs.sections.judge_each.Goals as goal
 
-pub fan_out-requires-clause-pieces : goal.fan_out-requires-clause-pieces
-fan_out-requires-clause-pieces g c κs within = λ k d less.
+pub fan_out-requires-after_bounds : goal.fan_out-requires-after_bounds
+fan_out-requires-after_bounds g c κs within = λ k d less.
     let all : c.as_slice.result.now ≡ range_with_len 0 c.args.count = c.as_slice.ensures.value ∙ c.in_ok-numbers.ensures in
     let here : k < c.args.count = omega (arith, less, ap length all, length-range_with_len 0 c.args.count) in
     let at : get_or c.as_slice.result.now k d ≡ 0 + k =
