@@ -1,0 +1,4 @@
+pub mod Exchange
+pub mod Sent
+pub mod Streams
+pub mod Taking
