@@ -14,4 +14,5 @@ mod values;
 
 pub use ask::Ask;
 pub use command::Command;
+pub use numbers::number_within;
 pub use options::{Choice, MAX_WORKERS, Options, Search};

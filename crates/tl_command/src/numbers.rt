@@ -5,7 +5,7 @@ ghost use Rattle.std.specs.Prelude.{◌≡◌, ◌≢◌, ◌≤◌, ℕ, IfSome
 use tl_base::read_number;
 
 /// The number from `least` to `most` whose canonical decimal the argument is.
-pub(crate) fn number_within(word: &str, least: u32, most: u32) -> Option<u32>
+pub fn number_within(word: &str, least: u32, most: u32) -> Option<u32>
     ensures number { IfSome result (λ number. word.now ≡ decimal number) }
     ensures range { IfSome result (λ number. (least ≤ number) × (number ≤ most)) }
     ensures none { IfNone result ((number : ℕ) → least ≤ number → number ≤ most → word.now ≢ decimal number) }

@@ -1,0 +1,4 @@
+mod Examples
+pub mod Headings
+pub mod Words
+pub mod Arriving
