@@ -6,10 +6,13 @@ ghost use Rattle.std.specs.Prelude.{◌≡◌, ◌≢◌};
 ghost use Rattle.std.specs.IoError.{error_kind};
 
 use std::env;
-use std::io::{self, ErrorKind};
+use std::io::{self, BufReader, ErrorKind};
 use std::process::ExitCode;
+use std::thread::Threads;
 use tl_arguments::{Question, VERSION, arrange, complaint};
 use tl_base::{NoGate, RealDesk};
+use tl_batch::{Ending, asks_for_batch, batch};
+use tl_exchange::Streams;
 use tl_program::{Status, run};
 
 /// What `--help` prints.
@@ -19,6 +22,7 @@ tablelayout narrow HEIGHT IN PAGE [CERT [LESS [SPENT]]] [OPTION ..]
 tablelayout tidy WIDTH IN PAGE [CERT [LESS [SPENT]]] [OPTION ..]
 tablelayout check WIDTH IN CERT [OPTION ..]
 tablelayout demo NUMBER
+tablelayout batch
 The manual page says what each does, and what the options are.";
 
 /// Carries out the arguments of the command line, or answers what is asked of the program itself. Where
@@ -31,6 +35,9 @@ fn main(rt: HostRuntime) -> ExitCode {
     };
     if let Some(question) = Question::asked(words.as_slice()) {
         return ExitCode::from(answer(&rt, question).number());
+    }
+    if asks_for_batch(words.as_slice()) {
+        return ExitCode::from(answer_requests(&rt).number());
     }
     let Ok(arranged) = arrange(alloc, words.as_slice()) else {
         return ExitCode::from(Status::Memory.number());
@@ -46,6 +53,17 @@ fn main(rt: HostRuntime) -> ExitCode {
         complain(&rt, words.as_slice());
     }
     ExitCode::from(status)
+}
+
+/// Answers the requests of standard input on standard output.
+fn answer_requests(rt: &(impl Threads + Sync + Input + Print + AllocGlobal)) -> Ending {
+    match BufReader::new(rt.alloc(), rt.reader()) {
+        Ok(reader) => {
+            let mut streams = Streams::new(reader, io::writer(rt));
+            batch(rt, rt.alloc(), &mut streams, &NoGate)
+        }
+        Err(_) => Ending::Memory,
+    }
 }
 
 /// Prints the answer to what is asked of the program itself.

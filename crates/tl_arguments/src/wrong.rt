@@ -9,7 +9,10 @@ use std::alloc::{AllocError, Global};
 use tl_command::Ask;
 
 /// The commands of the program.
-const COMMANDS: &[&str] = &["lay", "narrow", "tidy", "check", "demo"];
+const COMMANDS: &[&str] = &["lay", "narrow", "tidy", "check", BATCH, "demo"];
+
+/// The command that answers requests: it is the only word.
+const BATCH: &str = "batch";
 
 /// The options of the program.
 const OPTIONS: &[&str] = &[
@@ -38,6 +41,9 @@ pub fn complaint(alloc: Global, words: &[String]) -> Result<String, AllocError> 
     };
     if !COMMANDS.contains(&command) {
         return unknown(alloc, "command", command, COMMANDS);
+    }
+    if command == BATCH {
+        return format!(in alloc; "command '{command}' takes no other words");
     }
     if let Some(text) = about_options(alloc, command, options.as_slice())? {
         return Ok(text);

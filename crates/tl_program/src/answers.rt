@@ -48,7 +48,7 @@ fn deliver_answer<D: Desk>(alloc: Global, ask: &Ask<'_>, desk: &mut D, answer: A
 }
 
 /// The texts of an answer in the order of the names: none under the first, the page, and the certificates.
-fn texts_of(alloc: Global, answer: Answer) -> Result<Vec<Option<List<u8>>>, AllocError>
+pub fn texts_of(alloc: Global, answer: Answer) -> Result<Vec<Option<List<u8>>>, AllocError>
     ensures { IfOk result (λ texts. texts.items ≡ texts_of answer) }
 {
     let mut texts = Vec::new(alloc);

@@ -15,5 +15,9 @@ mod running;
 mod status;
 mod task;
 
+pub use answers::texts_of;
+pub use messages::message_text;
+pub use report::Report;
 pub use running::run;
 pub use status::Status;
+pub use task::{task_of, task_on};

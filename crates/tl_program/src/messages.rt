@@ -121,7 +121,7 @@ fn between_text(alloc: Global, width: Option<u32>, least: u32) -> Result<String,
 }
 
 /// The message of a report.
-pub fn text(alloc: Global, report: Report) -> Result<String, AllocError>
+pub fn message_text(alloc: Global, report: Report) -> Result<String, AllocError>
     ensures { IfOk result (λ text. string_bytes text ≡ message_of report) }
 {
     match report {

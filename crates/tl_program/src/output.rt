@@ -4,7 +4,7 @@ ghost use Rattle.std.specs.Prelude.{◌≡◌, ◌≤◌, ◌∷◌, [], map};
 ghost use Rattle.tl_program.specs.Change.{between, as_stored};
 ghost use Rattle.tl_program.specs.inner.Printing.{IsPrinted, IsStored, IsDelivered};
 
-use crate::messages::text;
+use crate::messages::message_text;
 use crate::report::Report;
 use crate::status::Status;
 use std::alloc::Global;
@@ -23,7 +23,7 @@ pub fn deliver<D: Desk>(alloc: Global, desk: &mut D, report: Report, files: &[Fi
         (between D.Desk desk.old desk.new) (record { report = report; stores = map as_stored files.now }) }
     ensures loads_stay { D.load_faults desk.new ≡ D.load_faults desk.old }
 {
-    let message = match text(alloc, report) {
+    let message = match message_text(alloc, report) {
         Ok(message) => message,
         Err(_) => return Status::Memory,
     };

@@ -1,0 +1,3 @@
+pub mod Arrived
+mod Examples
+pub mod Turning

@@ -1,0 +1,24 @@
+-- What the call answers is told.
+use Rattle.std.proofs.Common.{◌≡◌, subst}
+use Rattle.std.proofs.lemmas.Result.{IfOk-weaker}
+use Rattle.tl_command.specs.Ask.{asked_by}
+use Rattle.tl_lay.specs.declared.task.Task.{Task}
+use Rattle.tl_lay.specs.Answers.{IsLaid}
+use Rattle.tl_lay.specs.Lowest.{Lays}
+use Rattle.tl_batch.specs.Replies.{TellsLaid, answer_bytes}
+use Rattle.tl_batch.proofs.answering.answer_lay.Goals as goal
+
+pub returns : goal.returns
+returns g c =
+    let asked = asked_by c.args.ask.now in
+    let file = c.args.file.now in
+    let answer = c.in_ok-answer.answer in
+    IfOk-weaker c.tell.result (λ bytes. bytes.items ≡ answer_bytes answer) (λ bytes. TellsLaid asked file bytes.items)
+    (λ bytes same. (
+      answer,
+      (
+        subst (λ (task : Task). IsLaid task file answer) c.task_of-task.ensures c.in_ok-answer.ensures.laid,
+        subst (λ (task : Task). Lays task file answer) c.task_of-task.ensures c.in_ok-answer.ensures.lays,
+      ),
+      same,
+    )) c.tell.ensures

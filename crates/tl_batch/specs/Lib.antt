@@ -1,0 +1,4 @@
+pub mod Endings
+pub mod Exchanged
+pub mod Replies
+pub mod inner
