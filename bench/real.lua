@@ -2,9 +2,10 @@
 --
 --   REAL=FOLDER TABLELAYOUT=FOLDER/keep pandoc -t plain --lua-filter real.lua DOCUMENT
 --
--- Into FOLDER goes for table N what the filter for tables gives to the command (N.html), what pandoc itself writes of
--- the table (N.own), and what it writes of each cell alone (N.cells). `keep` is a command that stores its input as
--- FOLDER/in.html. Notes are left out, since they stand below a document and not in its tables, and so are rules.
+-- Into FOLDER goes for table N what the filter for tables gives to the program (N.html), what pandoc itself writes of
+-- the table (N.own), and what it writes of each cell alone (N.cells). `keep` is a program that stores the file of a
+-- request as FOLDER/in.html. Notes are left out, since they stand below a document and not in its tables, and so are
+-- rules.
 -- luacheck: std lua53, read globals pandoc PANDOC_SCRIPT_FILE
 
 local folder = os.getenv("REAL")

@@ -28,7 +28,7 @@ _tablelayout() {
     local current=${COMP_WORDS[COMP_CWORD]} words option
     COMPREPLY=()
     if [ "$COMP_CWORD" -eq 1 ]; then
-        words='show page lessopen textconv lay narrow tidy check demo preview install uninstall help'
+        words='show page lessopen textconv lay narrow tidy check batch demo preview install uninstall help'
     elif [[ $current == -* ]]; then
         # An option stands at most once.
         for option in $(_tablelayout_options "${COMP_WORDS[1]}"); do

@@ -92,6 +92,9 @@ is_told "tablelayout: option '--budget' does not take '100001'" lay 10 in.html p
 is_told "tablelayout: option '--least' does not take '5,'" lay 10 in.html page --csv --least 5,
 is_told "tablelayout: command 'check' does not take '--html'" check 10 in.html cert --html
 is_told "tablelayout: command 'check' does not take '--solver'" check 10 in.html cert --solver best
+is_told "tablelayout: command 'batch' takes no other words" batch 1
+is_told "tablelayout: command 'batch' takes no other words" batch --workers 4
+is_told "tablelayout: unknown command 'bacth': did you mean 'batch'?" bacth
 is_told "tablelayout: command 'demo' does not take '--csv'" demo 1 --csv
 is_told "tablelayout: command 'lay' needs a number" lay
 is_told "tablelayout: command 'lay' does not take the number '0'" lay 0 in.html page

@@ -69,6 +69,8 @@ expect_text $'aaa  cc dd\nbbb  ee   ' "as the page" <page.txt
 all_of tablelayout check 12 in.html page.cert | expect_text $'lowest height 2 width 10\nstatus 0' "by check"
 all_of tablelayout narrow 2 in.html page.txt | expect_text $'slimmest width 10 height 2\nstatus 0' "by narrow"
 all_of tablelayout tidy 12 in.html page.txt | expect_text $'tidy height 2 width 10\nstatus 0' "by tidy"
+{ echo "lay 12 43" && cat in.html; } | all_of tablelayout batch |
+    expect_text $'0 22 0 0 0\nlowest height 2 width 10\naaa  cc dd\nbbb  ee   \nstatus 0' "by batch"
 all_of tablelayout demo 0 | expect_text $'cells 159 count 185118922800 height 130 lower 130 cuts 7\nstatus 0' "by demo"
 all_of tablelayout preview 12 in.html | expect_text $'aaa  cc dd\nbbb  ee   \nlowest height 2 width 10\nstatus 0' "by preview"
 if command -v pandoc >/dev/null; then

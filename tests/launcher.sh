@@ -12,10 +12,16 @@ cat >"$room/bin/rt" <<'RT'
 #!/bin/sh
 echo "$1 ${PWD##*/}" >>"${0%/bin/rt}/asked"
 mkdir -p out/rlib
-[ "$1" != run ] || { printf '#!/bin/sh\necho "program $*"\n' >out/new && chmod +x out/new && mv out/new out/tablelayout; }
+[ "$1" != run ] || { cp "${0%/bin/rt}/program" out/new && mv out/new out/tablelayout; }
 [ "$1" != try ] || { echo "tried ${*#*-- }" && echo run=ended >&2; }
 RT
-chmod +x "$room/bin/rt"
+# It says its arguments, and of a request its words.
+cat >"$room/program" <<'PROGRAM'
+#!/bin/sh
+[ "$1" != batch ] || { read -r words && printf '1 0 0 0 0\nprogram %s\n' "${words% *}" && exit; }
+echo "program $*"
+PROGRAM
+chmod +x "$room/bin/rt" "$room/program"
 export PATH=$room/bin:$PATH
 
 # What is printed on standard output, and the status.
@@ -54,7 +60,7 @@ make_checkout judged
 printf '#!/bin/sh\necho "libraries $*" >>"%s/asked"\n' "$room" >"$checkout/tools/prove_libraries.py"
 for words in lya lay "lay 9" "lay 9 in" "narrow 9 in" "tidy 9 in" "check 9 in" demo "demo 1 2" "preview 9" preview \
     install "install a b" uninstall in.html "lay 9 in --csv" "tidy 9 --in page" "lay 9 in --style frame" "--csv lay 9 in" \
-    "--csv show in" "--style lay 9 in page" "-- lay 9 in" --; do
+    "--csv show in" "--style lay 9 in page" "-- lay 9 in" -- "batch in" "batch --workers 4" "--csv batch"; do
     # shellcheck disable=SC2086
     all_of "$checkout/tablelayout" $words | expect_text $'usage\nstatus 2' "by $words"
 done
@@ -99,15 +105,14 @@ all_of "$checkout/tablelayout" preview 9 in --html | expect_text $'program lay 9
 (cd "$checkout" && sh tablelayout demo 1) | expect_text "program demo 1" "without a folder in its name"
 ln -s "$checkout/tablelayout" "$room/bin/linked"
 linked demo 1 | expect_text "program demo 1" "by a link"
-# The front runs the program that is here, and says that this one answers as none does.
-shown() {
-    "$checkout/tablelayout" show "$@" 2>&1 | sed 's,/proc/self/fd/[0-9]*,FILE,g'
-}
+"$checkout/tablelayout" batch <<<"lay 9 0" | expect_text $'1 0 0 0 0\nprogram lay 9' "by batch"
+# The front asks the program that is here, and says that this one answers as none does.
+readonly ANSWERED="the program answered with status 1: program"
 echo '<table>' >"$room/in.html"
-COLUMNS=7 shown "$room/in.html" | expect_text "the program's message is 'program lay 7 FILE FILE --style compact --break words'" \
-    "by show with COLUMNS"
-TABLELAYOUT=$room/none shown "$room/in.html" --width 8 --break any |
-    expect_text "the program's message is 'program lay 8 FILE FILE --style compact --break any'" "by show where the environment names a command"
+COLUMNS=7 "$checkout/tablelayout" show "$room/in.html" 2>&1 |
+    expect_text "$ANSWERED lay 7 --style compact --break words" "by show with COLUMNS"
+TABLELAYOUT=$room/none "$checkout/tablelayout" show "$room/in.html" --width 8 --break any 2>&1 |
+    expect_text "$ANSWERED lay 8 --style compact --break any" "by show where the environment names a command"
 asked | expect_text "" "by rt for a program that is built"
 
 # Where nothing changed, one process looks for what is newer.
@@ -195,6 +200,7 @@ if command -v flock >/dev/null; then
     asked | expect_text $'lib high\nlib high\nlib low\nlib low\nrun tablelayout' "by rt for libraries and an install"
     # What the program alone does starts no other process, and where it is built it waits for none.
     PATH=$room/none /bin/sh "$room/beside_to/bin/tablelayout" demo 3 | expect_text "program demo 3" "with nothing in the path"
+    PATH=$room/none /bin/sh "$room/beside_to/bin/tablelayout" batch <<<"lay 9 0" | expect_text $'1 0 0 0 0\nprogram lay 9' "by batch with nothing in the path"
     flock "$checkout/out/lock" "$checkout/tablelayout" demo 4 2>&1 | expect_text "program demo 4" "while another builds"
 else
     skip "there is no flock, so none waits for another"

@@ -129,7 +129,7 @@ def read_manual(text):
 def read_help(text):
     options = re.findall(r"^  (--\S+(?: \S+)*)  ", text, re.M)
     return {
-        "command": set(re.findall(r"^  tablelayout (\w+) [A-Z\[]", text, re.M)),
+        "command": set(re.findall(r"^  tablelayout (\w+)(?: [A-Z\[].*)?$", text, re.M)),
         "option": dict(option_of(it.replace("|", " ").split()) for it in options),
         "status": set(re.findall(r"^ {2,3}(\d+)  ", text, re.M)),
     }

@@ -65,17 +65,48 @@ stays "(1 2 3 4 5 6 7 8 9 10 11 12 13 14 15 16 1..): it stays as pandoc writes i
 with_filter ships.html -t rst 2>"$room/said" | expect <(pandoc ships.html -t rst --columns 44) "as rst"
 expect_text "tablelayout: tables stay as pandoc writes them, since rst is no format of text" "on standard error of rst" <"$room/said"
 
-# Another program that the environment names.
-cat >"$room/made/hurried" <<PROGRAM
-#!/bin/sh
-exec '$program' "\$@" --budget 0
-PROGRAM
-chmod +x "$room/made/hurried"
-TABLELAYOUT=$room/made/hurried with_filter columns.md -M tablelayout-width=12 2>"$room/said" | expect hurried.txt "by a program without cuts"
+# A noncharacter in a cell stays, also where spaces of code are kept.
+with_filter -f markdown <<<$'| \xef\xb7\x90a | `b  c` |\n|---|---|\n| \xef\xb7\x91 | d |' 2>&1 |
+    expect_text $'\xef\xb7\x90a b  c\n\xef\xb7\x91  d' "of noncharacters"
+
+# Other programs that the environment names. The first makes no cuts.
+make_program() {
+    printf '#!/bin/sh\n%s\n' "$1" >"$room/made/other"
+    chmod +x "$room/made/other"
+}
+with_other() {
+    TABLELAYOUT=$room/made/other with_filter "$@" 2>"$room/said"
+}
+make_program "sed '1s/ [0-9]*\$/ --budget 0&/' | '$program' \"\$@\""
+with_other columns.md -M tablelayout-width=12 | expect hurried.txt "by a program without cuts"
 expect_text "tablelayout: table 1 (aaa bbb cc dd ee): its page may not be the lowest: bounded height 3 lower 2 width 6" \
     "on standard error of a program without cuts" <"$room/said"
-TABLELAYOUT=$room/none with_filter columns.md 2>&1 >"$room/page" | grep -o "the command could not be run" |
-    expect_text "the command could not be run" "without a program"
+
+# All tables go through one run, and those whose words do not fit whole through one more.
+make_program "echo \"\$*\" >>'$room/runs'; exec '$program' \"\$@\""
+with_other ships.md | expect markdown.txt "by one run"
+with_other columns.md -M tablelayout-width=5 | expect_text $'Text.\n\naa cc\na  dd\nbb ee\nb' "by two runs"
+expect_text $'batch\nbatch\nbatch' "as runs" <"$room/runs"
+
+# A program that is missing, and one that ends after its first answer.
+cat columns.md <(echo) columns.md >"$room/made/twice.md"
+pandoc -t plain --columns 44 "$room/made/twice.md" >"$room/own"
+TABLELAYOUT=$room/none with_filter "$room/made/twice.md" 2>"$room/said" | expect "$room/own" "without a program"
+expect_text "tablelayout: 2 tables stay as pandoc writes them: $room/none could not be run" \
+    "on standard error without a program" <"$room/said"
+make_program "printf '0 2 0 0 0\\nlowest height 1 width 1\\nx\\n'"
+with_other "$room/made/twice.md" | expect_text "$(printf 'Text.\n\nx\n\n' && pandoc -t plain --columns 44 columns.md)" "by a program that ends"
+expect_text "tablelayout: a table stays as pandoc writes it: $room/made/other ended before it had answered" \
+    "on standard error of a program that ends" <"$room/said"
+
+# In a checkout where the program is not built the launcher is run.
+mkdir -p "$room/checkout/integrations/pandoc"
+cp "$top/integrations/pandoc/tablelayout.lua" "$room/checkout/integrations/pandoc"
+make_program "echo launched >&2; exec '$program' \"\$@\""
+cp "$room/made/other" "$room/checkout/tablelayout"
+pandoc --lua-filter "$room/checkout/integrations/pandoc/tablelayout.lua" -t plain --columns 44 ships.md 2>"$room/said" |
+    expect markdown.txt "by a launcher"
+expect_text launched "on standard error of a launcher" <"$room/said"
 
 names . | expect "$room/names" "and left"
 names "$TMPDIR" | expect_text "" "and left for a time"

@@ -2,17 +2,19 @@
 --
 --   pandoc -t plain --columns 60 --lua-filter tablelayout.lua report.html
 --
--- docs/PANDOC.md says what it does. A table becomes a file of the subset of HTML that the command `tablelayout` reads,
--- which goes to the command by a pipe; its page comes back by another. No file is written. Nothing here is proved.
+-- docs/PANDOC.md says what it does. Each table becomes a file of the subset of HTML that the program `tablelayout`
+-- reads. Those of a whole document go to one run of the program by a pipe, and their pages come back by another. No
+-- file is written. Nothing here is proved.
+--
+-- So the document is gone through before there is any page: what goes through a part of it returns a function that
+-- gives this part with its pages, once they are there.
 -- luacheck: std lua53, read globals pandoc FORMAT PANDOC_VERSION PANDOC_SCRIPT_FILE PANDOC_WRITER_OPTIONS
 
 PANDOC_VERSION:must_be_at_least("2.17")
 
 local MOST_COLUMNS = 500
 local MOST_SPAN = 1000
-local STATUS_LOWEST, STATUS_BOUNDED, STATUS_NARROW = 0, 3, 4
--- A noncharacter, which no text has. It stands for a space at which no line breaks.
-local BLANK = "\u{FDD0}"
+local STATUS_LOWEST, STATUS_BOUNDED, STATUS_NARROW, STATUS_MEMORY = 0, 3, 4, 9
 local REPLACEMENT = "\u{FFFD}"
 -- A page is text where pandoc writes text itself, and a block of code where it writes markdown.
 local TEXT_FORMATS = { plain = true, ansi = true }
@@ -22,6 +24,19 @@ local BREAKS = { "words", "any" }
 
 local is_text = TEXT_FORMATS[FORMAT]
 local is_markdown = MARKDOWN_FORMATS[FORMAT] or FORMAT:match("^markdown") ~= nil
+
+-- The noncharacters above U+FDCF but for U+FFFE and U+FFFF. A text may have some of them, but hardly all.
+local NONCHARACTERS = {}
+for code = 0xFDD0, 0xFDEF do
+    table.insert(NONCHARACTERS, utf8.char(code))
+end
+for plane = 0x10000, 0x100000, 0x10000 do
+    table.insert(NONCHARACTERS, utf8.char(plane + 0xFFFE))
+    table.insert(NONCHARACTERS, utf8.char(plane + 0xFFFF))
+end
+-- Characters that no text of a table has. The first stands for a space at which no line breaks, the second for the end
+-- of a part of a cell.
+local blank, part_end
 
 -- Writing as pandoc does
 
@@ -38,8 +53,8 @@ end
 
 -- How many columns the writer puts in front of what stands in a block. `around` makes the block around a text.
 local function indentation(around)
-    local written = pandoc.write(pandoc.Pandoc({ around(BLANK) }), FORMAT, { wrap_text = "none" })
-    local before = written:match("([^\n]*)" .. BLANK) or ""
+    local written = pandoc.write(pandoc.Pandoc({ around(REPLACEMENT) }), FORMAT, { wrap_text = "none" })
+    local before = written:match("([^\n]*)" .. REPLACEMENT) or ""
     -- Colours take no column.
     return utf8.len((before:gsub("\27%[[%d;]*m", "")))
 end
@@ -73,7 +88,7 @@ end
 -- A space in code stays where it is, and lines break before a word alone.
 local function keep_spaces(code)
     code = code:gsub("\t", "    "):gsub(" +", function(spaces)
-        return BLANK:rep(#spaces - 1) .. " "
+        return blank:rep(#spaces - 1) .. " "
     end)
     return code
 end
@@ -86,8 +101,8 @@ local function code_lines(text)
     local inlines = pandoc.List({})
     for line in lines_of(text) do
         local indent, rest = line:match("^( *)(.-) *$")
-        local kept = BLANK:rep(#indent) .. keep_spaces(rest)
-        inlines:extend({ pandoc.Str(kept == "" and BLANK or kept), pandoc.LineBreak() })
+        local kept = blank:rep(#indent) .. keep_spaces(rest)
+        inlines:extend({ pandoc.Str(kept == "" and blank or kept), pandoc.LineBreak() })
     end
     inlines:remove()
     return inlines
@@ -113,24 +128,68 @@ local function escape(text)
     return (text:gsub("[&<>]", { ["&"] = "&amp;", ["<"] = "&lt;", [">"] = "&gt;" }))
 end
 
--- Adds the text of blocks without tables: its paragraphs, and in them its lines, with their indentation.
-local function add_text(out, blocks)
-    local lines = {}
+-- The HTML of a text: its paragraphs, and in them its lines, with their indentation.
+local function html_of_text(text)
+    local paragraphs, lines = {}, {}
     local function end_paragraph()
         if #lines > 0 then
-            out:insert("<p>" .. table.concat(lines, "<br>") .. "</p>")
+            paragraphs[#paragraphs + 1] = "<p>" .. table.concat(lines, "<br>") .. "</p>"
         end
         lines = {}
     end
-    for line in lines_of(text_of(blocks:walk(FOR_A_CELL))) do
+    for line in lines_of(text) do
         local indent, rest = line:match("^( *)(.-) *$")
         if rest == "" then
             end_paragraph()
         else
-            lines[#lines + 1] = BLANK:rep(#indent) .. escape(rest)
+            lines[#lines + 1] = blank:rep(#indent) .. escape(rest)
         end
     end
     end_paragraph()
+    return table.concat(paragraphs)
+end
+
+-- All parts of the document's cells that have no table in them, each as its blocks.
+local parts
+
+-- Adds the place of a part, which stands for its HTML until all parts are written.
+local function add_text(out, blocks)
+    parts:insert(blocks)
+    out:insert(#parts)
+end
+
+-- Two characters that a text does not have.
+local function unused_characters(text)
+    local unused = {}
+    for _, character in ipairs(NONCHARACTERS) do
+        if #unused < 2 and not text:find(character, 1, true) then
+            table.insert(unused, character)
+        end
+    end
+    assert(#unused == 2, "the tables have all noncharacters")
+    return unused[1], unused[2]
+end
+
+-- The HTML of each part. The writer writes all at once, which takes a fraction of the time.
+local function write_parts()
+    local blocks, ends = pandoc.Blocks({}), {}
+    for _, part in ipairs(parts) do
+        blocks:extend(part)
+        blocks:insert(pandoc.HorizontalRule())
+        ends[#ends + 1] = #blocks
+    end
+    blank, part_end = unused_characters(pandoc.write(pandoc.Pandoc(blocks), "json"))
+    local end_block = paragraph(part_end)
+    for _, place in ipairs(ends) do
+        blocks[place] = end_block
+    end
+    local text, at, written = text_of(blocks:walk(FOR_A_CELL)), 1, {}
+    for i = 1, #parts do
+        local first, last = text:find(part_end, at, true)
+        written[i] = html_of_text(text:sub(at, first - 1))
+        at = last + 1
+    end
+    return written
 end
 
 -- Tables
@@ -188,12 +247,12 @@ ADD_AROUND.OrderedList = add_list
 
 -- Adds what stands in a cell: texts, and tables between them.
 function add_flow(out, blocks)
-    local run = pandoc.Blocks({})
+    local run
     local function end_run()
-        if #run > 0 then
+        if run then
             add_text(out, run)
         end
-        run = pandoc.Blocks({})
+        run = nil
     end
     for _, block in ipairs(blocks) do
         local add = ADD_AROUND[block.t]
@@ -201,6 +260,7 @@ function add_flow(out, blocks)
             end_run()
             add(out, block)
         else
+            run = run or pandoc.Blocks({})
             run:insert(block)
         end
     end
@@ -262,86 +322,161 @@ function add_table(out, block)
     out:insert("</table>\n")
 end
 
-local function html_of(block)
-    local out = pandoc.List({})
-    add_table(out, block)
-    return table.concat(out)
+-- The HTML of a table that was added: texts, and places of parts.
+local function html_of(out, written)
+    return table.concat(out:map(function(it)
+        return written[it] or it
+    end))
 end
 
--- The command
+-- The program
 
 local settings
-local table_count = 0
+-- All tables of the document, each with its number, the width that is left for it, and what is known of it by then.
+local tables
 
--- The command that the environment names, the one beside this file, or the one in the path.
+local function is_file(name)
+    local file = io.open(name)
+    -- Of a folder nothing can be read.
+    local is_read = file and file:read(0)
+    if file then
+        file:close()
+    end
+    return is_read
+end
+
+-- Where the program is, from the folder of this file: in a checkout, and installed. Where it is not built, the launcher
+-- of the checkout builds it.
+local PLACES = {
+    "/../../crates/tablelayout/out/tablelayout",
+    "/../../../libexec/tablelayout/tablelayout",
+    "/../../tablelayout",
+}
+
+-- The program that the environment names, the one beside this file, or the one in the path.
 local function find_program()
     local given = os.getenv("TABLELAYOUT")
     if given and given ~= "" then
         return given
     end
     local here = PANDOC_SCRIPT_FILE:match("^(.*)/") or "."
-    -- In a checkout, and installed.
-    for _, place in ipairs({ "/../../tablelayout", "/../../../bin/tablelayout" }) do
-        local file = io.open(here .. place)
-        -- Of a folder nothing can be read.
-        local is_file = file and file:read(0)
-        if file then
-            file:close()
-        end
-        if is_file then
+    for _, place in ipairs(PLACES) do
+        if is_file(here .. place) then
             return here .. place
         end
     end
     return "tablelayout"
 end
 
--- The status, the page and the message of the command on a file.
-local function lay_out(html, width, breaking)
-    local options = { "--style", settings.style, "--break", breaking }
-    local arguments = { "lay", tostring(width), "/dev/stdin", "/dev/stdout", table.unpack(options) }
-    local is_done, result = pcall(pandoc.pipe, settings.program, arguments, html)
-    local status = is_done and STATUS_LOWEST or tonumber(result.error_code)
-    if not status then
-        error("tablelayout: the command could not be run: " .. tostring(result))
+local function complain(text)
+    io.stderr:write("tablelayout: " .. text .. "\n")
+end
+
+-- Sets the status, the message and the page of a table to those of the answer at a place of what the program printed.
+-- Returns the place after it, or nothing where there is no answer.
+local function read_answer(it, printed, at)
+    local status, size, message, first = printed:match("^(%d+) (%d+) 0 0 0\n([^\n]*)\n()", at)
+    if not status or first + size - 1 > #printed then
+        return nil
     end
-    local page, message = (is_done and result or result.output):match("^(.-)([^\n]*)\n?$")
-    return status, page, message ~= "" and message or string.format("%s ended with %d", settings.program, status)
+    it.status, it.message, it.page = tonumber(status), message, printed:sub(first, first + size - 1)
+    return first + tonumber(size)
+end
+
+-- How many of some tables are answered, one after the other, by what the program printed.
+local function read_answers(asked, printed)
+    local at = 1
+    for i, it in ipairs(asked) do
+        at = read_answer(it, printed, at)
+        if not at then
+            return i - 1
+        end
+    end
+    return #asked
+end
+
+-- Asks one run of the program for the pages of some tables.
+local function lay_out(asked, breaking)
+    if #asked == 0 then
+        return
+    end
+    local requests = asked:map(function(it)
+        it.status = nil
+        local words = { "lay", it.width, "--style", settings.style, "--break", breaking, #it.html }
+        return table.concat(words, " ") .. "\n" .. it.html
+    end)
+    local is_done, result = pcall(pandoc.pipe, settings.program, { "batch" }, table.concat(requests))
+    -- What it printed, if it ran at all.
+    local printed = is_done and result or type(result) == "table" and result.output
+    local missing = #asked - read_answers(asked, printed or "")
+    if missing > 0 then
+        local reason = printed and "ended before it had answered" or "could not be run"
+        local form = missing == 1 and "a table stays as pandoc writes it" or "%d tables stay as pandoc writes them"
+        complain(form:format(missing) .. ": " .. settings.program .. " " .. reason)
+    end
+end
+
+-- Asks for the pages of all tables, with whole words where a layout has them.
+local function lay_out_all()
+    local written = write_parts()
+    for _, it in ipairs(tables) do
+        it.html = html_of(it.out, written)
+    end
+    local has_room = function(it)
+        return it.width >= 1
+    end
+    lay_out(tables:filter(has_room), settings.breaking or "words")
+    if not settings.breaking then
+        local is_narrow = function(it)
+            return it.status == STATUS_NARROW
+        end
+        lay_out(tables:filter(is_narrow), "any")
+    end
 end
 
 -- The first words of a table, to name it by.
 local function first_words(html)
-    local words = html:gsub("<[^>]*>", " "):gsub(BLANK, " "):gsub("%s+", " "):gsub("^ ", ""):gsub(" $", "")
+    local words = html:gsub("<[^>]*>", " "):gsub(blank, " "):gsub("%s+", " "):gsub("^ ", ""):gsub(" $", "")
     words = words:gsub("&lt;", "<"):gsub("&gt;", ">"):gsub("&amp;", "&")
     local past = utf8.offset(words, 41)
     return past and words:sub(1, past - 1) .. ".." or words
 end
 
-local function say(html, text)
-    io.stderr:write(string.format("tablelayout: table %d (%s): %s\n", table_count, first_words(html), text))
+local function say(it, text)
+    complain(string.format("table %d (%s): %s", it.number, first_words(it.html), text))
 end
 
--- The page of a table, or nothing if the table has none.
-local function page_of(block, width)
-    local html = html_of(block)
-    table_count = table_count + 1
-    if width < 1 then
-        say(html, "it stays as pandoc writes it: no column is left for it")
+-- Why a table has no page.
+local function reason_of(it)
+    if it.width < 1 then
+        return "no column is left for it"
+    elseif it.status == STATUS_NARROW then
+        return "no layout fits " .. it.width .. " columns, and the least width is " .. it.message:match("least (%d+)")
+    elseif it.status == STATUS_MEMORY then
+        return "out of memory"
+    end
+    return it.message
+end
+
+-- The page of a table, or nothing if the table has none. That the program gave no answer was said of all such tables.
+local function page_of(it)
+    if it.status == STATUS_BOUNDED then
+        say(it, "its page may not be the lowest: " .. it.message)
+    elseif it.status ~= STATUS_LOWEST then
+        if it.status or it.width < 1 then
+            say(it, "it stays as pandoc writes it: " .. reason_of(it))
+        end
         return nil
     end
-    local status, page, message = lay_out(html, width, settings.breaking or "words")
-    if status == STATUS_NARROW and not settings.breaking then
-        status, page, message = lay_out(html, width, "any")
-    end
-    if status == STATUS_BOUNDED then
-        say(html, "its page may not be the lowest: " .. message)
-    elseif status == STATUS_NARROW then
-        message = "no layout fits " .. width .. " columns, and the least width is " .. message:match("least (%d+)")
-    end
-    if status ~= STATUS_LOWEST and status ~= STATUS_BOUNDED then
-        say(html, "it stays as pandoc writes it: " .. message)
-        return nil
-    end
-    return page:gsub(BLANK, " "):gsub(" +\n", "\n"):gsub("\n$", "")
+    return (it.page:gsub(blank, " "):gsub(" +\n", "\n"):gsub("\n$", ""))
+end
+
+-- Asks for the page of a table. It is there once all are.
+local function ask_for(block, width)
+    local it = { number = #tables + 1, width = width, out = pandoc.List({}) }
+    add_table(it.out, block)
+    tables:insert(it)
+    return it
 end
 
 -- Documents
@@ -386,8 +521,8 @@ local function read_raw_tables(blocks)
             local _, ends = raw:gsub("</table[%s>]", "")
             depth = depth + starts - ends
             if depth <= 0 then
-                local tables = pandoc.read(pandoc.write(pandoc.Pandoc(open), "html"), "html").blocks
-                read:extend(tables[1] and tables[1].t == "Table" and tables or open)
+                local found = pandoc.read(pandoc.write(pandoc.Pandoc(open), "html"), "html").blocks
+                read:extend(found[1] and found[1].t == "Table" and found or open)
                 open = nil
             end
         end
@@ -396,9 +531,10 @@ local function read_raw_tables(blocks)
     return read
 end
 
+-- Goes through blocks, asks for the pages of their tables, and returns a function that gives the blocks with the pages.
 local lay_out_blocks
 -- In markdown the notes of all tables are counted together.
-local table_notes = no_notes()
+local table_notes
 
 -- A page as text. Where pandoc writes no raw text, it is a paragraph of one word.
 local function text_block(page)
@@ -407,17 +543,28 @@ end
 
 local function lay_out_table(block, width)
     if is_text then
-        local page = page_of(block, width)
-        return { page and text_block(page) or block }
+        local asked = ask_for(block, width)
+        return function()
+            local page = page_of(asked)
+            return { page and text_block(page) or block }
+        end
     end
     local notes = { count = table_notes.count, blocks = pandoc.List({}) }
     local numbered = number_notes(pandoc.Blocks({ block }), notes)[1]
-    local page = page_of(numbered, width - indentation(pandoc.CodeBlock))
-    if not page then
-        return { block }
-    end
+    local asked = ask_for(numbered, width - indentation(pandoc.CodeBlock))
     table_notes.count = notes.count
-    return pandoc.List({ pandoc.CodeBlock(page) }) .. lay_out_blocks(pandoc.Blocks(notes.blocks), width)
+    local below = lay_out_blocks(pandoc.Blocks(notes.blocks), width)
+    return function()
+        local page = page_of(asked)
+        return page and pandoc.List({ pandoc.CodeBlock(page) }) .. below() or { block }
+    end
+end
+
+-- Calls each function of a list.
+local function all_of(functions)
+    return functions:map(function(it)
+        return it()
+    end)
 end
 
 local function lay_out_list(list, width)
@@ -428,44 +575,87 @@ local function lay_out_list(list, width)
         end)
         items:insert(lay_out_blocks(alone.content[1], width - indent))
     end
-    return { with_content(list, items) }
+    return function()
+        return { with_content(list, all_of(items)) }
+    end
 end
 
--- Between two of these pandoc writes no empty line.
-local JOINS = { Plain = true, RawBlock = true }
+local function lay_out_content(block, width)
+    local content = lay_out_blocks(block.content, width)
+    return function()
+        return { with_content(block, content()) }
+    end
+end
 
--- How each block that holds a table is laid out in a width.
+local function lay_out_quotation(block, width)
+    return lay_out_content(block, width - indentation(function(text)
+        return pandoc.BlockQuote({ paragraph(text) })
+    end))
+end
+
+local function lay_out_definitions(list, width)
+    local indent = indentation(function(text)
+        return pandoc.DefinitionList({ { { pandoc.Str("a") }, { { paragraph(text) } } } })
+    end)
+    local items = list.content:map(function(item)
+        return pandoc.List(item[2]):map(function(definition)
+            return lay_out_blocks(definition, width - indent)
+        end)
+    end)
+    return function()
+        local content = pandoc.List({})
+        for i, item in ipairs(list.content) do
+            content:insert({ item[1], all_of(items[i]) })
+        end
+        return { with_content(list, content) }
+    end
+end
+
+-- The notes in text are those of markdown, which writes them below, indented.
+local function lay_out_notes(block, width)
+    local notes = pandoc.List({})
+    block:walk({
+        Note = function(note)
+            local indent = indentation(function(text)
+                return pandoc.Para({ pandoc.Note({ pandoc.Para({ pandoc.Str("a") }), paragraph(text) }) })
+            end)
+            notes:insert(lay_out_blocks(note.content, width - indent))
+        end,
+    })
+    return function()
+        local place = 0
+        return { block:walk({
+            Note = function()
+                place = place + 1
+                return pandoc.Note(notes[place]())
+            end,
+        }) }
+    end
+end
+
+-- A block without a table in it. In text the notes stand at the end by now.
+local function lay_out_other(block, width)
+    if is_markdown then
+        return lay_out_notes(block, width)
+    end
+    return function()
+        return { block }
+    end
+end
+
+-- How each block that may hold a table is laid out in a width.
 local LAY_OUT_AROUND = {
     Table = lay_out_table,
     BulletList = lay_out_list,
     OrderedList = lay_out_list,
-    Div = function(block, width)
-        return { with_content(block, lay_out_blocks(block.content, width)) }
-    end,
-    Figure = function(block, width)
-        return { with_content(block, lay_out_blocks(block.content, width)) }
-    end,
-    BlockQuote = function(block, width)
-        local indent = indentation(function(text)
-            return pandoc.BlockQuote({ paragraph(text) })
-        end)
-        return { with_content(block, lay_out_blocks(block.content, width - indent)) }
-    end,
-    DefinitionList = function(block, width)
-        local indent = indentation(function(text)
-            return pandoc.DefinitionList({ { { pandoc.Str("a") }, { { paragraph(text) } } } })
-        end)
-        local items = pandoc.List({})
-        for _, item in ipairs(block.content) do
-            local definitions = pandoc.List({})
-            for _, definition in ipairs(item[2]) do
-                definitions:insert(lay_out_blocks(definition, width - indent))
-            end
-            items:insert({ item[1], definitions })
-        end
-        return { with_content(block, items) }
-    end,
+    Div = lay_out_content,
+    Figure = lay_out_content,
+    BlockQuote = lay_out_quotation,
+    DefinitionList = lay_out_definitions,
 }
+
+-- Between two of these pandoc writes no empty line.
+local JOINS = { Plain = true, RawBlock = true }
 
 -- Adds blocks, with an empty line where pandoc writes none beside a page.
 local function add_blocks(laid, blocks)
@@ -479,25 +669,19 @@ local function add_blocks(laid, blocks)
     end
 end
 
--- The notes in text are those of markdown, which writes them below, indented.
-local function lay_out_notes(block, width)
-    return block:walk({
-        Note = function(note)
-            local indent = indentation(function(text)
-                return pandoc.Para({ pandoc.Note({ pandoc.Para({ pandoc.Str("a") }), paragraph(text) }) })
-            end)
-            return pandoc.Note(lay_out_blocks(note.content, width - indent))
-        end,
-    })
-end
-
 function lay_out_blocks(blocks, width)
-    local laid = pandoc.Blocks({})
+    local laid = pandoc.List({})
     for _, block in ipairs(read_raw_tables(blocks)) do
-        local around = LAY_OUT_AROUND[block.t]
-        add_blocks(laid, around and around(block, width) or { lay_out_notes(block, width) })
+        local lay = LAY_OUT_AROUND[block.t] or lay_out_other
+        laid:insert(lay(block, width))
     end
-    return laid
+    return function()
+        local with_pages = pandoc.Blocks({})
+        for _, it in ipairs(all_of(laid)) do
+            add_blocks(with_pages, it)
+        end
+        return with_pages
+    end
 end
 
 -- What the document's metadata say, or nothing.
@@ -533,7 +717,7 @@ end
 
 local function lay_out_document(doc)
     if not is_text and not is_markdown then
-        io.stderr:write("tablelayout: tables stay as pandoc writes them, since " .. FORMAT .. " is no format of text\n")
+        complain("tables stay as pandoc writes them, since " .. FORMAT .. " is no format of text")
         return nil
     end
     settings = {
@@ -541,14 +725,19 @@ local function lay_out_document(doc)
         style = choice_setting(doc.meta, "style", STYLES) or "compact",
         breaking = choice_setting(doc.meta, "break", BREAKS),
     }
+    parts, tables, table_notes = pandoc.List({}), pandoc.List({}), no_notes()
     local width, notes = width_setting(doc.meta), no_notes()
     if is_text then
         -- A page is text to pandoc, which does not number the notes in it.
         doc.blocks = number_notes(doc.blocks, notes)
     end
-    doc.blocks = lay_out_blocks(doc.blocks, width)
-    doc.blocks:extend(lay_out_blocks(pandoc.Blocks(notes.blocks), width))
-    return table_count > 0 and doc or nil
+    local text, below = lay_out_blocks(doc.blocks, width), lay_out_blocks(pandoc.Blocks(notes.blocks), width)
+    if #tables == 0 then
+        return nil
+    end
+    lay_out_all()
+    doc.blocks = text() .. below()
+    return doc
 end
 
 return { { Pandoc = lay_out_document } }

@@ -17,8 +17,8 @@ from tablelayout.packages import need  # noqa: E402
 
 PROGRAM = os.environ.setdefault("TABLELAYOUT_PROGRAM", str(TOP / "crates" / "tablelayout" / "out" / "tablelayout"))
 COMMAND = [PROGRAM]
-# A run of the program for each request takes its time.
-MANY = 40
+# So many tables go through one process.
+MANY = 1000
 
 
 def has_parser():

@@ -2,9 +2,11 @@
 import os
 import random
 import signal
+import subprocess
 import sys
 import threading
 import unittest
+from pathlib import Path
 
 import common
 
@@ -33,6 +35,8 @@ class Answers(unittest.TestCase):
         self.assertEqual((page.status, page.message, page.text.encode(), page.certificate.encode()), (status, message, text, cert))
 
     def test_many_tables(self):
+        self.layouter.lay([["a"]])
+        pid = self.layouter.pid
         for number in range(common.MANY):
             rows, width = drawn_table(number), 10 + number % 30
             data, _ = tablelayout.rows.csv_of(rows)
@@ -43,6 +47,7 @@ class Answers(unittest.TestCase):
                     self.assertEqual((page.status, page.message, page.text.encode()), (status, message, text))
                 except tablelayout.TooNarrow as refusal:
                     self.assertEqual((refusal.status, refusal.message), (status, message))
+        self.assertEqual(self.layouter.pid, pid)
 
     def test_lowest(self):
         page = self.layouter.lay(html=COLUMNS, width=12)
@@ -171,6 +176,21 @@ class Answers(unittest.TestCase):
     def test_least(self):
         self.assertEqual(self.layouter.lay([["a", "b"]], least=[3, 2]).width, 7)
 
+    @unittest.skipUnless(os.path.isdir("/proc/self"), "processes are not listed")
+    def test_out_of_memory(self):
+        self.layouter.lay([["a"]])
+        lines = Path(f"/proc/{self.layouter.pid}/status").read_text().splitlines()
+        most = next(int(it.split()[1]) for it in lines if it.startswith("VmPeak:")) + 20_000
+        little = ["sh", "-c", f'ulimit -v {most} && exec "$@"', "sh", *common.COMMAND]
+        with tablelayout.Layouter(little) as layouter:
+            self.assertEqual(layouter.lay([["a"]]).text, "a\n")
+            pid = layouter.pid
+            with self.assertRaises(tablelayout.OutOfMemory) as caught:
+                layouter.lay(html=b"<table><tr><td>" + b"a " * 500_000, width=1)
+            self.assertEqual(caught.exception.status, 9)
+            self.assertEqual(layouter.lay([["b"]]).text, "b\n")
+            self.assertEqual(layouter.pid, pid)
+
 
 class Processes(unittest.TestCase):
     def setUp(self):
@@ -194,6 +214,15 @@ class Processes(unittest.TestCase):
         self.assertEqual(self.text(), "a  b\n")
         self.assertNotEqual(self.layouter.pid, pid)
 
+    def test_ends_after_each_answer(self):
+        script = 'read -r asked && head -c "${asked##* }" >/dev/null && printf "0 2 0 0 0\\nlowest height 1 width 1\\na\\n"'
+        with tablelayout.Layouter(["sh", "-c", script]) as layouter:
+            pids = set()
+            for _ in range(3):
+                self.assertEqual(layouter.lay([["a"]]).text, "a\n")
+                pids.add(layouter.pid)
+            self.assertEqual(len(pids), 3)
+
     def test_ends_each_time(self):
         with tablelayout.Layouter([sys.executable, "-c", "import os; os.abort()"]) as layouter, self.assertRaises(tablelayout.ProgramFault):
             layouter.lay([["a"]])
@@ -203,25 +232,42 @@ class Processes(unittest.TestCase):
             layouter.lay([["a"]])
 
     def test_no_program(self):
-        with tablelayout.Layouter(["/no/such/program"]) as layouter, self.assertRaises(tablelayout.ProgramFault) as caught:
-            layouter.lay([["a"]])
-        self.assertIn("/no/such/program", str(caught.exception))
+        for name in ("/no/such/program", "/dev/null", "no-such-program", "/"):
+            with tablelayout.Layouter([name]) as layouter, self.assertRaises(tablelayout.ProgramFault) as caught:
+                layouter.lay([["a"]])
+            self.assertIn(name, str(caught.exception))
 
-    def test_in_process(self):
-        with tablelayout.Layouter(common.COMMAND, in_process=True) as layouter:
-            for width, wanted in ((12, (0, "lowest height 2 width 10")), (9, (0, "lowest height 3 width 7"))):
-                page = layouter.lay(html=COLUMNS, width=width)
-                self.assertEqual((page.status, page.message), wanted)
-                self.assertEqual(page.certificate.encode(), common.run("lay", width, COLUMNS)[3])
-            with self.assertRaises(tablelayout.BadRequest):
-                layouter.lay(html=COLUMNS, width=0)
-            self.assertEqual(layouter.lay([["a", "b"]]).text, "a  b\n")
-            self.assertIsNone(layouter.pid)
-        with tablelayout.Layouter([sys.executable, "-c", "import os; os.abort()"], in_process=True) as layouter, \
-                self.assertRaises(tablelayout.ProgramFault):
+    @unittest.skipUnless(os.path.isdir("/proc/self/fd"), "descriptors are not listed")
+    def test_leaves_nothing(self):
+        before = os.listdir("/proc/self/fd")
+        for command in (common.COMMAND, ["/dev/null"]):
+            layouter = tablelayout.Layouter(command)
+            try:
+                layouter.lay([["a"]])
+            except tablelayout.ProgramFault:
+                pass
+            # Nobody closed it.
+            del layouter
+        self.assertEqual(os.listdir("/proc/self/fd"), before)
+        with self.assertRaises(ChildProcessError):
+            os.waitpid(-1, os.WNOHANG)
+
+    def test_closed_descriptors(self):
+        code = "import sys, common, tablelayout; sys.stderr.write(tablelayout.Layouter(common.COMMAND).lay([['a', 'b']]).text)"
+        for closed in ("<&-", ">&-", "<&- >&-"):
+            with self.subTest(closed=closed):
+                ran = subprocess.run(["sh", "-c", f'exec "$@" {closed}', "sh", sys.executable, "-c", code], stderr=subprocess.PIPE, check=False,
+                                     cwd=os.path.dirname(common.__file__))
+                self.assertEqual(ran.stderr, b"a  b\n")
+
+    def test_does_not_heed_its_end(self):
+        layouter = tablelayout.Layouter(["sh", "-c", "trap '' PIPE; printf '9 0 0 0 0\\n\\n'; exec sleep 60"])
+        with self.assertRaises(tablelayout.OutOfMemory):
             layouter.lay([["a"]])
-        with tablelayout.Layouter(["/dev/null"], in_process=True) as layouter, self.assertRaises(tablelayout.ProgramFault):
-            layouter.lay([["a"]])
+        pid = layouter.pid
+        layouter.close()
+        with self.assertRaises(ProcessLookupError):
+            os.kill(pid, 0)
 
     def test_closed(self):
         self.text()

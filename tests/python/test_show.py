@@ -117,7 +117,7 @@ class Show(unittest.TestCase):
         self.assertEqual((ran.said, ran.status), ("limit: file 1048577\n", 6))
 
     def test_places_of_long_lines(self):
-        says = script(self.room, "says", 'echo "bad input: $SAID"\nexit 5\n')
+        says = script(self.room, "says", 'printf "5 0 0 0 0\\nbad input: %s\\n" "$SAID"\n')
         for data, kind, said, wanted in (
             (b"a" * 1048570 + b"<img>\n", "--markup", "unknown element at 1048570",
              ["line 1, column 1048571:", "...aaaaaaaaaaaaaaaaa<img>", "                    ^"]),

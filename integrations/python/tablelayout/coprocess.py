@@ -2,31 +2,41 @@
 from __future__ import annotations
 
 import os
-import subprocess
-from typing import Sequence
+import time
+from typing import List, Tuple
 
 from .protocol import Answer, BadAnswer, Ended, read_answer
 
 _BLOCK_BYTES = 1 << 16
 _SECONDS_TO_END = 2.0
+_FIRST_PAUSE_SECONDS = 0.0005
+_KILLED = 9
 
 
 class CoProcess:
-    """A process that answers one request after the other. It is not safe with threads: a Layouter holds a lock."""
+    """A process that answers one request after the other. It is not safe with threads: a Layouter holds a lock.
 
-    def __init__(self, command: Sequence[str]) -> None:
+    It is started without ``subprocess``, which takes as long to load as many tables take to lay out.
+    """
+
+    def __init__(self, command: List[str]) -> None:
         """Starts the command. Raises OSError if it cannot be started."""
-        # Without buffers nothing is written twice after a fork.
-        self._process = subprocess.Popen(command, stdin=subprocess.PIPE, stdout=subprocess.PIPE, bufsize=0)
-        assert self._process.stdin is not None and self._process.stdout is not None
-        self._to = self._process.stdin.fileno()
-        self._from = self._process.stdout.fileno()
+        self._is_over = True
+        self._open: List[int] = []
         self._came = bytearray()
+        its_input, self._to = self._pipe()
+        self._from, its_output = self._pipe()
+        actions = [(os.POSIX_SPAWN_DUP2, its_input, 0), (os.POSIX_SPAWN_DUP2, its_output, 1)]
+        self.pid = os.posix_spawnp(command[0], command, os.environ, file_actions=actions)
+        self._is_over = False
+        for end in (its_input, its_output):
+            self._open.remove(end)
+            os.close(end)
 
-    @property
-    def pid(self) -> int:
-        """The number of the process."""
-        return self._process.pid
+    def _pipe(self) -> Tuple[int, int]:
+        ends = os.pipe()
+        self._open.extend(ends)
+        return ends
 
     def exchange(self, request: bytes) -> Answer:
         """Sends a request and reads its answer. Raises Ended if the process ends before it answers."""
@@ -70,26 +80,40 @@ class CoProcess:
         return taken
 
     def _close_pipes(self) -> None:
-        for pipe in (self._process.stdin, self._process.stdout):
-            if pipe is not None:
-                pipe.close()
+        while self._open:
+            os.close(self._open.pop())
+
+    def _wait(self, options: int) -> bool:
+        """Whether the process has ended, which is waited for unless the options say WNOHANG."""
+        if not self._is_over:
+            try:
+                self._is_over = os.waitpid(self.pid, options)[0] == self.pid
+            except ChildProcessError:
+                self._is_over = True  # Somebody else waits for all children.
+        return self._is_over
 
     def end(self) -> None:
         """Ends the process, by the end of its input if it heeds that."""
         self._close_pipes()
-        try:
-            self._process.wait(_SECONDS_TO_END)
-        except subprocess.TimeoutExpired:
-            self.kill()
+        pause, waited = _FIRST_PAUSE_SECONDS, 0.0
+        while waited < _SECONDS_TO_END and not self._wait(os.WNOHANG):
+            time.sleep(pause)
+            waited += pause
+            pause *= 2
+        self.kill()
 
     def kill(self) -> None:
         """Ends the process at once."""
         self._close_pipes()
-        self._process.kill()
-        self._process.wait()
+        if not self._wait(os.WNOHANG):
+            os.kill(self.pid, _KILLED)
+            self._wait(0)
 
     def forget(self) -> None:
         """Lets go of a process of the parent, after a fork."""
         self._close_pipes()
         # It is no child of this process, so there is nothing to wait for.
-        self._process.returncode = 0
+        self._is_over = True
+
+    def __del__(self) -> None:
+        self.end()

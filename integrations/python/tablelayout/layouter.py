@@ -3,29 +3,25 @@ from __future__ import annotations
 
 import atexit
 import os
-import sys
 import threading
 import weakref
-from typing import TYPE_CHECKING, Callable, Optional, Sequence, Type, TypeVar, Union
+from typing import Callable, Optional, Sequence, Type, TypeVar, Union
 
+from .coprocess import CoProcess
 from .errors import NoPageFound, ProgramFault, TooNarrow
 from .messages import BOUNDED, LOWEST, USAGE, headline, refusal
 from .pages import LowPage, NarrowPage, Page, TidyPage, Verdict, verdict_of
-from .program import find_program, is_runnable, runner_of
+from .program import find_program, is_runnable
 from .protocol import Answer, Ended, request
 from .rows import Rows
 from .sources import Options, Source, source_of
-
-if TYPE_CHECKING:
-    from .coprocess import CoProcess
-    from .runs import Runs
 
 File = Union[str, bytes]
 _AnyPage = TypeVar("_AnyPage", bound=Page)
 
 
 class Layouter:
-    """Lays tables out by one process that runs the program for each request.
+    """Lays tables out by one process of the program, which answers one request after the other.
 
     It may be shared between threads: each request waits for the one before it. After a fork the child starts a program of
     its own. A program that ended is started once more. It is a context manager, and its program ends with it, or when
@@ -35,15 +31,13 @@ class Layouter:
             print(layouter.lay([["a", "b"], ["c", "d"]], 72))
     """
 
-    def __init__(self, command: Optional[Sequence[str]] = None, in_process: bool = False) -> None:
+    def __init__(self, command: Optional[Sequence[str]] = None) -> None:
         """``command`` is the program with the arguments that stand before all others; without it the program is looked for.
 
-        Nothing is started before the first request. ``in_process`` starts no process but the program, for a command that
-        has to start at once.
+        Nothing is started before the first request.
         """
         self._command = command
-        self._in_process = in_process
-        self._process: Union[CoProcess, Runs, None] = None
+        self._process: Optional[CoProcess] = None
         self._lock = threading.Lock()
         self._is_closed = False
         _ALL.add(self)
@@ -97,23 +91,17 @@ class Layouter:
         except Ended as ended:
             raise ProgramFault(str(ended)) from ended
 
-    def _start(self) -> Union[CoProcess, Runs]:
+    def _start(self) -> CoProcess:
         command = self._command or [find_program() or ""]
         if not command[0]:
             raise ProgramFault("there is no program tablelayout: TABLELAYOUT names none, and none is beside this package "
                                "or in the path")
         if not is_runnable(command[0]):
             raise ProgramFault(f"there is no program {command[0]} that can be run")
-        if self._in_process:
-            from .runs import Runs
-
-            return Runs(command)
-        from .coprocess import CoProcess
-
         try:
-            return CoProcess(runner_of(command))
+            return CoProcess([*command, "batch"])
         except OSError as fault:
-            raise ProgramFault(f"{sys.executable} could not be started: {fault.strerror}") from fault
+            raise ProgramFault(f"{command[0]} could not be started: {fault.strerror}") from fault
 
     def _stop(self) -> None:
         if self._process is not None:

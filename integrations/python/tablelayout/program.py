@@ -1,9 +1,8 @@
-"""Where the program is, and how it is asked again and again."""
+"""Where the program is."""
 from __future__ import annotations
 
 import os
-import sys
-from typing import Iterator, List, Optional, Sequence
+from typing import Iterator, Optional
 
 # In a checkout, and installed below a PREFIX.
 _BESIDE = ("crates/tablelayout/out/tablelayout", "libexec/tablelayout/tablelayout")
@@ -37,10 +36,3 @@ def is_runnable(program: str) -> bool:
     import shutil
 
     return shutil.which(program) is not None
-
-
-def runner_of(program: Sequence[str]) -> List[str]:
-    """The command that answers requests by runs of this program."""
-    # A module that is imported is compiled once, a script at each start. Modules of Python come before those of the package.
-    start = "import sys; sys.path.append(sys.argv[1]); import runner; sys.exit(runner.main(sys.argv[2:]))"
-    return [sys.executable, "-I", "-S", "-c", start, os.path.dirname(os.path.realpath(__file__)), *program]

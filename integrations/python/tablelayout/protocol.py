@@ -1,6 +1,6 @@
-"""Requests to a process that lays tables out, and its answers, as bytes.
+"""Requests to ``tablelayout batch`` and its answers, as bytes: docs/COMMAND.md says what each part is.
 
-    request := the words of a command without its names, a space, the number of bytes, LF, these bytes
+    request := the words of a command without its names, the number of bytes of each file, LF, and these bytes
     answer  := STATUS PAGE CERT LESS SPENT LF, MESSAGE LF, and the bytes of each
 """
 from __future__ import annotations

@@ -218,7 +218,7 @@ def main(arguments: Sequence[str]) -> int:
     known = parser()
     given = known.parse_args(with_defaults(known, arguments))
     try:
-        with Layouter(in_process=True) as layouter:
+        with Layouter() as layouter:
             return _Show(given, layouter).run()
     except _Fault as fault:
         terminal.write_message(fault.lines)

@@ -41,7 +41,7 @@ def _shown_parts(name: str, data: bytes) -> bytes:
         page = lay_item(layouter, part, way)
         return page.text + (f"{page.more}\n" if page.more else "")
 
-    with Layouter(in_process=True) as layouter:
+    with Layouter() as layouter:
         return _joined(shown(it) for it in _parts(name, data))
 
 
@@ -120,7 +120,7 @@ def _diffable(name: str, data: bytes, widths: Sequence[int]) -> bytes:
             raise _Cut
         return _diffable_page(layouter, part, widths)
 
-    with Layouter(in_process=True) as layouter:
+    with Layouter() as layouter:
         return _joined(diffable(it) for it in _parts(name, data))
 
 
