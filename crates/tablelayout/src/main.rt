@@ -10,9 +10,10 @@ use std::io::{self, BufReader, ErrorKind};
 use std::process::ExitCode;
 use std::thread::Threads;
 use tl_arguments::{Question, VERSION, arrange, complaint};
-use tl_base::{NoGate, RealDesk};
+use tl_base::NoGate;
 use tl_batch::{Ending, asks_for_batch, batch};
 use tl_exchange::Streams;
+use tl_files::RealDesk;
 use tl_program::{Status, run};
 
 /// What `--help` prints.

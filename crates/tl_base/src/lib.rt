@@ -1,8 +1,8 @@
 //! What every layer shares: lists and texts that contracts see as their items, canonical decimal
 //! numbers, the desk through which files and standard output are reached, and the gate that
 //! parallel pieces of work pass, step functions from widths to heights, styles and the sizes of
-//! columns and rows, chains of cells, and the limits that more than one crate knows. It knows no
-//! table, no text breaking and no layout. Its one contract: what the desk holds after each call, and
+//! columns and rows, chains of cells, the names of breakings and searches, and the limits that more
+//! than one crate knows. It knows no table, no text breaking and no layout. Its one contract: what the desk holds after each call, and
 //! that a fault is returned only where its count of faults rose.
 #![tactic(auto)]
 
@@ -14,7 +14,7 @@ mod items;
 mod limits;
 mod memory_desk;
 mod number;
-mod real_desk;
+mod search;
 mod sizes;
 mod steps;
 mod style;
@@ -34,7 +34,7 @@ pub use limits::{
 };
 pub use memory_desk::{Fail, MemoryDesk};
 pub use number::{read_number, write_number};
-pub use real_desk::RealDesk;
+pub use search::Search;
 pub use sizes::{room_on_page, room_size, total_size};
 pub use steps::{Config, Steps};
 pub use style::Style;

@@ -4,12 +4,11 @@ ghost use Rattle.std.specs.Io.KnownBytes.{Appends};
 ghost use Rattle.tl_base.specs.Desk.{Files, next_up_to};
 ghost use Rattle.tl_base.specs.declared.desk.DeskFault.TheVariants.{Failed};
 
-use crate::desk::{Desk, DeskFault};
-use crate::items::List;
 use std::alloc::{AllocError, Global};
 use std::fs::File;
 use std::io::{self, Read, Write};
 use std::rt::Files;
+use tl_base::{Desk, DeskFault, List};
 
 /// The name of standard output. What is stored under it is printed: a file opened by this name would
 /// be truncated, and what is printed next would overwrite it.
@@ -26,7 +25,7 @@ pub struct RealDesk<R> {
 }
 
 impl<R> RealDesk<R> {
-    ghost use Rattle.tl_base.specs.RealDesk.{load_faults_of, write_faults_of};
+    ghost use Rattle.tl_files.specs.Desk.{load_faults_of, write_faults_of};
 
     /// The desk over the runtime's files and standard output, with both counts at 0.
     pub fn new(runtime: R) -> RealDesk<R>
@@ -42,7 +41,7 @@ impl<R> RealDesk<R> {
 }
 
 impl<R: Files + Print + AllocGlobal> Desk for RealDesk<R> {
-    ghost use Rattle.tl_base.specs.RealDesk.{load_faults_of, write_faults_of, FailsToLoad};
+    ghost use Rattle.tl_files.specs.Desk.{load_faults_of, write_faults_of, FailsToLoad};
 
     ghost files = { λ _. None };
 
@@ -160,11 +159,12 @@ fn write_and_flush<W: Write>(writer: &mut W, bytes: &[u8]) -> io::Result<()>
 #[cfg(test)]
 mod tests {
     use super::{read_most, write_whole};
-    use crate::{Desk, DeskFault, List, RealDesk};
+    use crate::RealDesk;
     use std::alloc::{AllocError, Global};
     use std::io::{self, ErrorKind, Read, Write};
     use std::process::Abort;
     use std::test::Fail;
+    use tl_base::{Desk, DeskFault, List};
 
     /// `count` bytes that repeat after 251, so that a chunk lost or written twice shows.
     fn many_bytes(alloc: Global, count: u32) -> Result<List<u8>, AllocError> {

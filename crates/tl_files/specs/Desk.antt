@@ -1,7 +1,7 @@
 -- The counts of faults of the real desk, and what it shows of a load that failed.
 use Rattle.std.specs.Prelude.{ℕ, List}
 use Rattle.tl_base.specs.Desk.{Rose}
-use Rattle.tl_base.specs.declared.real_desk.RealDesk.{RealDesk}
+use Rattle.tl_files.specs.declared.desk.RealDesk.{RealDesk}
 
 -- how many calls of `load` returned an error
 abbrev pub load_faults_of : {R : Type 0} → RealDesk R → ℕ
