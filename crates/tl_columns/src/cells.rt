@@ -20,8 +20,8 @@ use crate::records::Record;
 use std::alloc::{AllocError, Global};
 use tl_base::{Breaking, List, Text};
 use tl_grid::Place;
-use tl_table::{Content, Kind, TableCell};
-use tl_text::{Atom, Para, part, words};
+use tl_table::{Content, Kind, TableCell, broken};
+use tl_text::{Atom, Para, words};
 
 /// The words as atoms, each a unit that begins a word.
 fn atoms_of(alloc: Global, words: List<Text>) -> Result<List<Atom>, AllocError>
@@ -34,7 +34,7 @@ fn atoms_of(alloc: Global, words: List<Text>) -> Result<List<Atom>, AllocError>
     Ok(atoms)
 }
 
-/// The paragraph of the words, as they are or each separated into its grapheme clusters.
+/// The paragraph of the words, broken so.
 fn paragraph(alloc: Global, words: List<Text>, breaking: Breaking) -> Result<Para, AllocError>
     requires { IsParagraph (map Word words) }
     ensures { IfOk result (λ units. units ≡ broken breaking (map Word words)) }
@@ -43,10 +43,7 @@ fn paragraph(alloc: Global, words: List<Text>, breaking: Breaking) -> Result<Par
     let Some(whole) = Para::new(atoms) else {
         unreachable!()
     };
-    match breaking {
-        Breaking::Words => Ok(whole),
-        Breaking::Any => part(alloc, &whole),
-    }
+    broken(alloc, whole, breaking)
 }
 
 /// The blocks of a text: one paragraph of its words, or none where it has no word.

@@ -146,7 +146,7 @@ fn the_first_row_alone_has_header_cells_and_floors(rt: HostRuntime) -> Result<()
     for &(file, count, table) in HEADED {
         let floors = [5, 0, 500];
         let least = &floors[..count.min(3)];
-        let found = table_of(rt.alloc(), file.as_bytes(), true, least, Breaking::Any)?;
+        let found = table_of(rt.alloc(), file.as_bytes(), true, least, Breaking::Wider(0))?;
         assert_eq!(rt; found.as_str(), table, "{file}");
     }
     Ok(())

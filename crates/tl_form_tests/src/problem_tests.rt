@@ -222,7 +222,7 @@ fn four_columns_of_two_classes_have_16_ways(rt: HostRuntime) -> Result<(), Fail>
 #[test]
 fn a_word_between_units_has_a_step_at_each_width_that_pays(rt: HostRuntime) -> Result<(), Fail> {
     let file = "<table><tr><td>abcdef</table>";
-    let found = problem_of(rt.alloc(), file, Breaking::Any, Style::Frame, 8, &[])?;
+    let found = problem_of(rt.alloc(), file, Breaking::Wider(0), Style::Frame, 8, &[])?;
     assert_eq!(rt;
         found.as_str(),
         "1x1 at 8, count 4: 0-1,0-1(1:6 2:3 3:2 6:1)"

@@ -388,7 +388,7 @@ fn a_file_as_a_data_tool_writes_it_is_formed(rt: HostRuntime) -> Result<(), Fail
 fn words_are_separated_into_units_at_all_depths(rt: HostRuntime) -> Result<(), Fail> {
     let file = "<table><caption>T u</caption><tr><td>ab c<br>d<table><tr><td>ef</table></table>";
     let wanted = "[T0 1x2 c0-1,0-1(T u) d0-1,1-2(a~b c / d)[T1 1x1 d0-1,0-1(e~f)]]";
-    forms(&rt, rt.alloc(), file, Breaking::Any, wanted)
+    forms(&rt, rt.alloc(), file, Breaking::Wider(0), wanted)
 }
 
 #[test]

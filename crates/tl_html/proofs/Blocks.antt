@@ -6,7 +6,7 @@ use Rattle.std.proofs.lemmas.List.Elements.{recursion_from_All}
 use Rattle.std.specs.declared.boxed.Box.{Box}
 use Rattle.std.specs.declared.alloc.Global.{Global}
 use Rattle.tl_base.specs.declared.breaking.Breaking.{Breaking}
-use Rattle.tl_base.specs.declared.breaking.Breaking.TheVariants.{Words, Any}
+use Rattle.tl_base.specs.declared.breaking.Breaking.TheVariants.{Words, Wider}
 use Rattle.tl_base.proofs.Members.{AllByRecursion-append}
 use Rattle.tl_token.specs.Elements.{no_spans}
 use Rattle.tl_token.specs.declared.token.Element.TheVariants as elements
@@ -38,7 +38,7 @@ use Rattle.tl_html.specs.Html as html
 use Rattle.tl_table.specs.Spellable.{AreSpellableBlocks, IsSpellableBlock}
 use Rattle.tl_html.proofs.Items.{Item, item_text, items_text, IsItem}
 use Rattle.tl_html.proofs.PageTags as page_tags
-use Rattle.tl_html.proofs.PageWords.{paragraph_items, paragraph_written, clusters_items, paragraph_is_items, paragraph_marks}
+use Rattle.tl_html.proofs.PageWords.{paragraph_items, paragraph_written, pieces_items, paragraph_is_items, paragraph_marks}
 use Rattle.tl_html.proofs.PageWords.{paragraph_goes, paragraph_stands}
 use Rattle.tl_html.proofs.PageWords.{GoesOn, goes_append, grammar_kinds, kinds_append, IsSharp, StandFor, NoGlue}
 
@@ -137,8 +137,8 @@ module _ (breaking : Breaking) (forms : TableNode → Table → Type 0) (alike :
   units_written : (b : Breaking) (units atoms : List Atom) → AllByRecursion IsSpeltAtom atoms → units ≡ broken b atoms →
       paragraph_html units ≡ items_text (paragraph_items atoms)
   units_written Words units atoms spelt is = ap paragraph_html is ∙ paragraph_written atoms
-  units_written Any units atoms spelt is =
-      ap paragraph_html is ∙ paragraph_written (broken Any atoms) ∙ ap items_text (clusters_items atoms spelt)
+  units_written (Wider most) units atoms spelt is =
+      ap paragraph_html is ∙ paragraph_written (broken (Wider most) atoms) ∙ ap items_text (pieces_items most atoms spelt)
 
   para_back : (block : Content) (inner : List Layout) (others : List Table) (k : ℕ) (units atoms : List Atom) →
       out-Content block ≡ open_content.Para units →

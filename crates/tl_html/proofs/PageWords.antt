@@ -14,9 +14,10 @@ use Rattle.tl_text.specs.declared.paragraph.Atom.{Atom}
 use Rattle.tl_text.specs.declared.paragraph.Atom.TheVariants.{Word, Glue, Break}
 use Rattle.tl_text.specs.Words.{has_character}
 use Rattle.tl_text.specs.Paragraph.{IsSolid, IsSpeltAtom}
-use Rattle.tl_text.specs.Clusters.{clusters_of, word_of, by_clusters}
+use Rattle.tl_text.specs.Clusters.{word_of}
+use Rattle.tl_text.specs.Parts.{word_pieces, broken_above}
 use Rattle.tl_text.specs.Cuttings.{joined}
-use Rattle.tl_text.proofs.ClusterLemmas.{joined-clusters}
+use Rattle.tl_text.proofs.PartLemmas.{joined-word, some-piece}
 use Rattle.tl_text.proofs.WordLemmas.{words_from-end}
 use Rattle.tl_tree.specs.Sound.{IsPlainAtom}
 use Rattle.tl_tree.specs.Grammar as marks
@@ -101,54 +102,54 @@ glues_break : (units : List (List ℕ)) (rest : List Atom) → break_items (map 
 glues_break [] rest = refl
 glues_break (unit ∷ units) rest = glues_break units rest
 
-word_parts : (word : List ℕ) → IsSolid word → (first : List ℕ) × (others : List (List ℕ)) × (clusters_of word ≡ first ∷ others)
-word_parts [] solid = absurd (omega (arith, solid.0))
-word_parts (c ∷ cs) solid = from (clusters_of (c ∷ cs)) (joined-clusters (c ∷ cs))
-  where
-    from : (pieces : List (List ℕ)) → joined pieces ≡ c ∷ cs →
-        (first : List ℕ) × (others : List (List ℕ)) × (pieces ≡ first ∷ others)
-    from [] is = absurd (cc)
-    from (first ∷ others) is = (first, others, refl)
+-- the pieces of a word that has a character
+some_pieces : (most : ℕ) (word : List ℕ) → IsSolid word →
+    (first : List ℕ) × (others : List (List ℕ)) × (word_pieces most word ≡ first ∷ others)
+some_pieces most [] solid = absurd (omega (arith, solid.0))
+some_pieces most (c ∷ cs) solid = some-piece most c cs
 
-word_lead : (follows : Bool) (word : List ℕ) (rest : List Atom) → IsSolid word →
-    lead follows (word_of (clusters_of word) ++ rest) ≡ cond follows (0x20 ∷ []) [] ++ (word ++ lead true rest)
-word_lead follows word rest solid =
-    let (first, others, split) = word_parts word solid in
-    let whole : first ++ joined others ≡ word = ap joined (sym split) ∙ joined-clusters word in
+word_lead : (most : ℕ) (follows : Bool) (word : List ℕ) (rest : List Atom) → IsSolid word →
+    lead follows (word_of (word_pieces most word) ++ rest) ≡ cond follows (0x20 ∷ []) [] ++ (word ++ lead true rest)
+word_lead most follows word rest solid =
+    let (first, others, split) = some_pieces most word solid in
+    let whole : first ++ joined others ≡ word = ap joined (sym split) ∙ joined-word most word in
     ap (λ (units : List (List ℕ)). lead follows (word_of units ++ rest)) split
     ∙ ap (λ (cs : List ℕ). cond follows (0x20 ∷ []) [] ++ (first ++ cs)) (glues_lead others rest)
     ∙ ap (λ (cs : List ℕ). cond follows (0x20 ∷ []) [] ++ cs)
     (sym (append_assoc first (joined others) (lead true rest)) ∙ ap (λ (cs : List ℕ). cs ++ lead true rest) whole)
 
-word_break : (word : List ℕ) (rest : List Atom) → break_items (word_of (clusters_of word) ++ rest) ≡ break_items rest
-word_break word rest = by_units (clusters_of word)
+word_break : (most : ℕ) (word : List ℕ) (rest : List Atom) →
+    break_items (word_of (word_pieces most word) ++ rest) ≡ break_items rest
+word_break most word rest = by_units (word_pieces most word)
   where
     by_units : (units : List (List ℕ)) → break_items (word_of units ++ rest) ≡ break_items rest
     by_units [] = refl
     by_units (first ∷ others) = glues_break others rest
 
-clusters_lead : (follows : Bool) (atoms : List Atom) → AllByRecursion IsSpeltAtom atoms →
-    lead follows (by_clusters atoms) ≡ lead follows atoms
-clusters_lead follows [] spelt = refl
-clusters_lead follows (Word word ∷ atoms) spelt =
-    word_lead follows word (by_clusters atoms) spelt.0
-    ∙ ap (λ (cs : List ℕ). cond follows (0x20 ∷ []) [] ++ (word ++ cs)) (clusters_lead true atoms spelt.1)
-clusters_lead follows (Glue unit ∷ atoms) spelt = ap (λ (cs : List ℕ). unit ++ cs) (clusters_lead true atoms spelt.1)
-clusters_lead follows (Break ∷ atoms) spelt = refl
+module _ (most : ℕ) where
+  pieces_lead : (follows : Bool) (atoms : List Atom) → AllByRecursion IsSpeltAtom atoms →
+      lead follows (broken_above most atoms) ≡ lead follows atoms
+  pieces_lead follows [] spelt = refl
+  pieces_lead follows (Word word ∷ atoms) spelt =
+      word_lead most follows word (broken_above most atoms) spelt.0
+      ∙ ap (λ (cs : List ℕ). cond follows (0x20 ∷ []) [] ++ (word ++ cs)) (pieces_lead true atoms spelt.1)
+  pieces_lead follows (Glue unit ∷ atoms) spelt = ap (λ (cs : List ℕ). unit ++ cs) (pieces_lead true atoms spelt.1)
+  pieces_lead follows (Break ∷ atoms) spelt = refl
 
-clusters_break : (atoms : List Atom) → AllByRecursion IsSpeltAtom atoms → break_items (by_clusters atoms) ≡ break_items atoms
-clusters_break [] spelt = refl
-clusters_break (Word word ∷ atoms) spelt = word_break word (by_clusters atoms) ∙ clusters_break atoms spelt.1
-clusters_break (Glue unit ∷ atoms) spelt = clusters_break atoms spelt.1
-clusters_break (Break ∷ atoms) spelt =
-    ap (λ (cs : List ℕ). break_item cs ∷ break_items (by_clusters atoms)) (clusters_lead false atoms spelt.1)
-    ∙ ap (λ (items : List Item). break_item (lead false atoms) ∷ items) (clusters_break atoms spelt.1)
+  pieces_break : (atoms : List Atom) → AllByRecursion IsSpeltAtom atoms →
+      break_items (broken_above most atoms) ≡ break_items atoms
+  pieces_break [] spelt = refl
+  pieces_break (Word word ∷ atoms) spelt = word_break most word (broken_above most atoms) ∙ pieces_break atoms spelt.1
+  pieces_break (Glue unit ∷ atoms) spelt = pieces_break atoms spelt.1
+  pieces_break (Break ∷ atoms) spelt =
+      ap (λ (cs : List ℕ). break_item cs ∷ break_items (broken_above most atoms)) (pieces_lead false atoms spelt.1)
+      ∙ ap (λ (items : List Item). break_item (lead false atoms) ∷ items) (pieces_break atoms spelt.1)
 
-pub clusters_items : (atoms : List Atom) → AllByRecursion IsSpeltAtom atoms →
-    paragraph_items (by_clusters atoms) ≡ paragraph_items atoms
-clusters_items atoms spelt =
-    ap (λ (cs : List ℕ). start_item cs ∷ (break_items (by_clusters atoms) ++ end_item ∷ [])) (clusters_lead false atoms spelt)
-    ∙ ap (λ (items : List Item). start_item (lead false atoms) ∷ (items ++ end_item ∷ [])) (clusters_break atoms spelt)
+  pub pieces_items : (atoms : List Atom) → AllByRecursion IsSpeltAtom atoms →
+      paragraph_items (broken_above most atoms) ≡ paragraph_items atoms
+  pieces_items atoms spelt =
+      ap (λ (cs : List ℕ). start_item cs ∷ (break_items (broken_above most atoms) ++ end_item ∷ [])) (pieces_lead false atoms spelt)
+      ∙ ap (λ (items : List Item). start_item (lead false atoms) ∷ (items ++ end_item ∷ [])) (pieces_break atoms spelt)
 
 -- ---- the items are tags and texts
 

@@ -341,7 +341,7 @@ fn words_are_escaped_and_keep_their_breaks(rt: HostRuntime) -> Result<(), Fail> 
     ] {
         // A unit that goes on with a word is read back where words may be broken.
         let breaking = if spelt.contains('+') {
-            Breaking::Any
+            Breaking::Wider(0)
         } else {
             Breaking::Words
         };

@@ -480,7 +480,7 @@ fn a_word_may_be_broken_between_its_clusters(rt: HostRuntime) -> Result<(), Fail
     let alloc = rt.alloc();
     let file = "<table><tr><td>abc d</table>";
     let three = layout(alloc, &[2], &[3])?;
-    let (any, plain) = (Breaking::Any, Style::Plain);
+    let (any, plain) = (Breaking::Wider(0), Style::Plain);
     draws_in(&rt, alloc, file, any, plain, 2, three, "ab\nc \nd \n")?;
     draws(&rt, alloc, file, plain, 2, &[2], &[3], "does not fit")
 }

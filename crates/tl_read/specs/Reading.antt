@@ -68,6 +68,11 @@ abbrev pub breaking_in : Source → Breaking
 breaking_in (sources.Html breaking) = breaking
 breaking_in (sources.Csv head floors breaking) = breaking
 
+-- the same file with its paragraphs broken so
+abbrev pub with_breaking : Breaking → Source → Source
+with_breaking breaking (sources.Html other) = sources.Html breaking
+with_breaking breaking (sources.Csv head floors other) = sources.Csv head floors breaking
+
 -- bytes within the limit of a file are this table, by what kind of file they are
 abbrev pub IsTableOfFile : Source → List ℕ → Table → Type 0
 IsTableOfFile (sources.Html breaking) bytes table = SpellsWithinLimits bytes breaking table

@@ -1,7 +1,7 @@
 //! What kind of file a table is read from.
 
 ghost use Rattle.std.specs.Prelude.{◌≡◌};
-ghost use Rattle.tl_read.specs.Reading.{breaking_in};
+ghost use Rattle.tl_read.specs.Reading.{breaking_in, with_breaking};
 
 use tl_base::Breaking;
 use tl_floors::Floors;
@@ -29,6 +29,20 @@ impl Source {
         match self {
             Source::Html(breaking) => breaking,
             Source::Csv { breaking, .. } => breaking,
+        }
+    }
+
+    /// The same file with its paragraphs broken so.
+    pub fn with_breaking(self, breaking: Breaking) -> Source
+        ensures { result ≡ with_breaking breaking self }
+    {
+        match self {
+            Source::Html(_) => Source::Html(breaking),
+            Source::Csv { head, floors, .. } => Source::Csv {
+                head,
+                floors,
+                breaking,
+            },
         }
     }
 }

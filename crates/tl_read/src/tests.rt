@@ -217,7 +217,7 @@ fn shown(alloc: Global, table: &Table) -> Result<String, AllocError> {
 
 /// CSV files, whether the first record is a header row, the floors, the breaking, and the table.
 const CSV_TABLES: &[(&str, bool, &[u32], Breaking, &str)] = &[
-    ("", true, &[5], Breaking::Any, "0x0"),
+    ("", true, &[5], Breaking::Wider(0), "0x0"),
     (
         "\u{feff}a,b\r\nccc,d",
         false,
@@ -229,14 +229,14 @@ const CSV_TABLES: &[(&str, bool, &[u32], Breaking, &str)] = &[
         "a,b\nccc,d\n",
         true,
         &[],
-        Breaking::Any,
+        Breaking::Wider(0),
         "2x2#0 1#0 1|0 3|0 1",
     ),
     (
         "a,b\nccc,d\n",
         false,
         &[5],
-        Breaking::Any,
+        Breaking::Wider(0),
         "2x2|5 1|0 1|0 3|0 1",
     ),
     (
@@ -251,7 +251,7 @@ const CSV_TABLES: &[(&str, bool, &[u32], Breaking, &str)] = &[
         "\"a b\n\"\"c\"\n\n",
         false,
         &[1; 60],
-        Breaking::Any,
+        Breaking::Wider(0),
         "1x1|1 4",
     ),
     (
@@ -291,6 +291,12 @@ fn a_file_is_read_as_the_kind_that_it_is_said_to_be(rt: HostRuntime) -> Result<(
     assert!(rt; refusal_as(alloc, b"<table></table>", csv())?.is_none());
     assert!(rt; HTML.breaking() == Breaking::Words);
     assert!(rt; csv().breaking() == Breaking::Words);
+    assert!(rt; HTML.with_breaking(Breaking::Wider(7)).breaking() == Breaking::Wider(7));
+    assert!(rt; csv().with_breaking(Breaking::Wider(7)).breaking() == Breaking::Wider(7));
+    assert!(rt;
+        refusal_as(alloc, b"a,b\n", HTML.with_breaking(Breaking::Wider(7)))? == Some(stray)
+    );
+    assert!(rt; refusal_as(alloc, b"a,b\n", csv().with_breaking(Breaking::Wider(7)))?.is_none());
     Ok(())
 }
 

@@ -2,10 +2,10 @@
 use Rattle.std.proofs.Common.{◌≡◌, ℕ, Option, Some, None, List, [], ◌∷◌, sym, subst}
 use Rattle.std.specs.List.{AllByRecursion}
 use Rattle.tl_base.specs.declared.breaking.Breaking.{Breaking}
-use Rattle.tl_base.specs.declared.breaking.Breaking.TheVariants.{Words, Any}
+use Rattle.tl_base.specs.declared.breaking.Breaking.TheVariants.{Words, Wider}
 use Rattle.tl_text.specs.declared.paragraph.Atom.{Atom}
 use Rattle.tl_text.specs.Paragraph.{IsParagraph}
-use Rattle.tl_text.proofs.ClusterLemmas.{separated_paragraph}
+use Rattle.tl_text.proofs.PartLemmas.{broken_paragraph}
 use Rattle.tl_tree.specs.Outline.{block_outline, cell_outline, outline}
 use Rattle.tl_tree.specs.Sound.{AreSound}
 use Rattle.tl_tree.specs.declared.node.Block.{Block, out-Block}
@@ -23,7 +23,7 @@ use Rattle.tl_table.proofs.SoundNodes.{block_outline-out, cell_flow, open_outlin
 
 pub broken-paragraph : (breaking : Breaking) (atoms : List Atom) → IsParagraph atoms → IsParagraph (broken breaking atoms)
 broken-paragraph Words atoms is = is
-broken-paragraph Any atoms is = separated_paragraph atoms is
+broken-paragraph (Wider most) atoms is = broken_paragraph most atoms is
 
 module _ (forms : TableNode → Table → Type 0) (breaking : Breaking) where
   spelt-content : (block : OpenBlock) (content : OpenContent) → BecomesContent forms breaking block content →

@@ -1,12 +1,12 @@
--- A paragraph whose words are separated into units counts what it counted.
+-- A paragraph whose words are in pieces counts what it counted.
 use Rattle.std.proofs.Common.{◌≡◌, List, sum_by, refl}
 use Rattle.tl_base.specs.declared.breaking.Breaking.{Breaking}
-use Rattle.tl_base.specs.declared.breaking.Breaking.TheVariants.{Words, Any}
+use Rattle.tl_base.specs.declared.breaking.Breaking.TheVariants.{Words, Wider}
 use Rattle.tl_text.specs.declared.paragraph.Atom.{Atom}
 use Rattle.tl_text.specs.Paragraph.{atom_size}
-use Rattle.tl_text.proofs.ClusterLemmas.{size-separated}
+use Rattle.tl_text.proofs.PartLemmas.{size-broken}
 use Rattle.tl_table.specs.Formed.{broken}
 
 pub broken_size : (breaking : Breaking) (atoms : List Atom) → sum_by atom_size (broken breaking atoms) ≡ sum_by atom_size atoms
 broken_size Words atoms = refl
-broken_size Any atoms = size-separated atoms
+broken_size (Wider most) atoms = size-broken most atoms

@@ -5,7 +5,7 @@ use Rattle.std.specs.Prelude.{Some, None}
 use Rattle.std.specs.List.{AllZip, AllPairs, flat_map}
 use Rattle.std.specs.List.Sorted.{IsPermutation}
 use Rattle.tl_base.specs.declared.breaking.Breaking.{Breaking}
-use Rattle.tl_base.specs.declared.breaking.Breaking.TheVariants.{Words, Any}
+use Rattle.tl_base.specs.declared.breaking.Breaking.TheVariants.{Words, Wider}
 use Rattle.tl_base.specs.declared.limits.TheConstants.{MAX_COLUMNS}
 use Rattle.tl_grid.specs.declared.shape.Grid.{Grid}
 use Rattle.tl_grid.specs.declared.shape.Place.{Place}
@@ -14,7 +14,7 @@ use Rattle.tl_grid.specs.declared.shape.ShapeGroup.{ShapeGroup}
 use Rattle.tl_grid.specs.declared.shape.SpanOf.{SpanOf}
 use Rattle.tl_grid.specs.Form.{HasGrid}
 use Rattle.tl_text.specs.declared.paragraph.Atom.{Atom}
-use Rattle.tl_text.specs.Clusters.{by_clusters}
+use Rattle.tl_text.specs.Parts.{broken_above}
 use Rattle.tl_tree.specs.declared.node.Block.{Block, Block-F, out-Block}
 use Rattle.tl_tree.specs.declared.node.Block.TheOpen as open_block
 use Rattle.tl_tree.specs.declared.node.CellNode.{CellNode, CellNode-F, out-CellNode}
@@ -82,10 +82,11 @@ cells_written node = cells_of_groups node.groups
 
 -- ---- the blocks of a cell
 
--- the units of a paragraph: its words as they are, or each separated into its grapheme clusters
+-- the units of a paragraph: its words as they are, or those that are wider than so many columns in
+-- their pieces
 abbrev pub broken : Breaking → List Atom → List Atom
 broken Words paragraph = paragraph
-broken Any paragraph = by_clusters paragraph
+broken (Wider most) paragraph = broken_above most paragraph
 
 -- a block of a tree becomes this block; `forms` says the same of a nested table
 abbrev pub BecomesContent : (TableNode → Table → Type 0) → Breaking → OpenBlock → OpenContent → Type 0

@@ -31,5 +31,6 @@ pub use laws::{
 pub use layout::Layout;
 pub use narrow::{narrow_chain, own_width};
 pub use numbers::by_number;
+pub use paragraph::broken;
 pub use same_laws::{same_tables_nest_as_many, same_tables_share_least_widths};
 pub use width::least_width;

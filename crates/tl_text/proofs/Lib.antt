@@ -10,4 +10,10 @@ pub mod Filled
 pub mod RangeSteps
 pub mod WordParagraphs
 pub mod ClusterLemmas
+pub mod PartLemmas
+pub mod PartsRead
+pub mod PartClusters
+pub mod WidestLemmas
+pub mod Steadiness
+pub mod Refinement
 pub mod Minimals

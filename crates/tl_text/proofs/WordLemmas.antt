@@ -57,16 +57,18 @@ kept : (some : Bool) (word : List ℕ) (later : List (List ℕ)) → cond some (
 kept true word later = refl
 kept false word later = refl
 
--- one more character, at the place after those that were read
+-- one more character, at the place after those that were read, is the first of what was left
+pub first_left : (cs y : List ℕ) (c : ℕ) → (length y < length cs) × (c ≡ get_or cs (length y) c) →
+    drop (length y) cs ≡ c ∷ drop (length (y ++ c ∷ [])) cs
+first_left cs y c turn =
+    at_drop_more (λ l. l) cs (length y) c turn.0 ∙ ap (λ first. first ∷ drop (length y + 1) cs) (sym turn.1)
+    ∙ ap (λ n. c ∷ drop n cs) (sym (length_push y c))
+
 module _ (list : List (List ℕ)) (cs y : List ℕ) (c : ℕ) (word : List ℕ)
     (turn : (length y < length cs) × (c ≡ get_or cs (length y) c))
     (so_far : list ++ words_from word (drop (length y) cs) ≡ words_of cs) where
-  rest : drop (length y) cs ≡ c ∷ drop (length (y ++ c ∷ [])) cs
-  rest = at_drop_more (λ l. l) cs (length y) c turn.0 ∙ ap (λ first. first ∷ drop (length y + 1) cs) (sym turn.1)
-      ∙ ap (λ n. c ∷ drop n cs) (sym (length_push y c))
-
   known : list ++ words_from word (c ∷ drop (length (y ++ c ∷ [])) cs) ≡ words_of cs
-  known = ap (λ l. list ++ words_from word l) (sym rest) ∙ so_far
+  known = ap (λ l. list ++ words_from word l) (sym (first_left cs y c turn)) ∙ so_far
 
   -- a letter goes on with the open word
   pub after_letter : is_ascii_whitespace c ≡ false → list ++ words_from (word ++ c ∷ [])

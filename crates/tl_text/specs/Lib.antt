@@ -1,6 +1,9 @@
 pub mod Words
 pub mod Paragraph
 pub mod Clusters
+pub mod Parts
+pub mod Refined
+pub mod Widest
 pub mod Cuttings
 pub mod Minimal
 pub mod Ranges

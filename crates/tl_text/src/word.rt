@@ -30,7 +30,7 @@ pub fn words(alloc: Global, text: &str) -> Result<List<Text>, AllocError>
 }
 
 /// Puts the word at the end, in its memory, if it has a character.
-fn push_word(list: &mut List<Text>, word: String) -> Result<(), AllocError>
+pub(crate) fn push_word(list: &mut List<Text>, word: String) -> Result<(), AllocError>
     ensures { OnOk result
         (list.new ≡ list.old ++ filter has_character (chars (string_bytes word) ∷ [])) }
 {

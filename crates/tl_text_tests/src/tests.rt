@@ -4,7 +4,10 @@ use std::alloc::{AllocError, Global};
 use std::process::Abort;
 use std::test::Fail;
 use tl_base::{Config, List, Text};
-use tl_text::{Atom, Line, Para, TextError, configs, count_lines, least_width, lines, part, words};
+use tl_text::{
+    Atom, Line, Para, TextError, configs, count_lines, least_width, lines, part, widest_within,
+    words,
+};
 
 /// A paragraph written by hand: `/` is a break, and `+` begins a unit that goes on with a word.
 fn atoms(alloc: Global, spelt: &str) -> Result<List<Atom>, Fail> {
@@ -303,12 +306,68 @@ fn a_word_is_separated_between_its_grapheme_clusters(rt: HostRuntime) -> Result<
         ("ab +cd", "a +b +cd"),
     ] {
         let p = paragraph(rt.alloc(), spelt)?;
-        let separated = part(rt.alloc(), &p)?;
+        let separated = part(rt.alloc(), &p, 0)?;
         holds(
             &rt,
             spelt,
             written(rt.alloc(), &separated)?.as_str() == want,
         );
+    }
+    Ok(())
+}
+
+/// Words, how many columns stay whole, and the units that there are then.
+const PARTS: &[(&str, u32, &str)] = &[
+    // a word of so many columns stays whole, and one of one column more is parted after its marks
+    ("src/lib.rt", 10, "src/lib.rt"),
+    ("src/lib.rt", 9, "src/ +lib. +rt"),
+    ("src/lib.rt", 4, "src/ +lib. +rt"),
+    // a part that is wider still is separated, and the others stay
+    ("src/lib.rt", 3, "s +r +c +/ +l +i +b +. +rt"),
+    ("ab src/lib.rt", 4, "ab src/ +lib. +rt"),
+    ("max_page_width", 13, "max_ +page_ +width"),
+    // a number and a time have one part, and a version only between its letters
+    ("1.234,56", 8, "1.234,56"),
+    ("1.234,56", 7, "1 +. +2 +3 +4 +, +5 +6"),
+    ("12:30", 4, "1 +2 +: +3 +0"),
+    ("v1.2-rc3", 5, "v1.2- +rc3"),
+    ("1.a:2", 2, "1. +a: +2"),
+    ("2026-12-01", 5, "2026- +12- +01"),
+    // each mark, before a letter or digit of ASCII alone
+    ("a;b=c?d&e+f#g@h%i", 2, "a; +b= +c? +d& +e+ +f# +g@ +h% +i"),
+    (
+        "https://example.org/a?b=c",
+        8,
+        "https:// +example. +org/ +a? +b= +c",
+    ),
+    ("a--b", 3, "a-- +b"),
+    ("a/\u{e9}", 2, "a +/ +\u{e9}"),
+    ("-a-", 2, "- +a-"),
+    ("a(b", 2, "a +( +b"),
+    // wide characters, and a cluster that is wider than what stays whole
+    ("\u{4e2d}/a", 4, "\u{4e2d}/a"),
+    ("\u{4e2d}/a", 3, "\u{4e2d}/ +a"),
+    ("\u{4e2d}/a", 2, "\u{4e2d} +/ +a"),
+    ("\u{4e2d}/a", 1, "\u{4e2d} +/ +a"),
+    // what goes on with a word stays as it is
+    ("ab +c-d / e-f", 2, "ab +c-d / e- +f"),
+];
+
+#[test]
+fn a_word_that_is_too_wide_is_parted_after_its_marks(rt: HostRuntime) -> Result<(), Fail> {
+    for (spelt, most, want) in PARTS {
+        let parted = part(rt.alloc(), &paragraph(rt.alloc(), spelt)?, *most)?;
+        let units = written(rt.alloc(), &parted)?;
+        assert_eq!(rt; units.as_str(), *want, "{spelt} above {most}");
+    }
+    Ok(())
+}
+
+#[test]
+fn the_widest_unit_is_no_wider_than_is_asked_for(rt: HostRuntime) -> Result<(), Fail> {
+    let p = paragraph(rt.alloc(), "a bbb / cc dddd")?;
+    for (most, want) in [(0, 0), (1, 1), (2, 2), (3, 3), (4, 4), (500, 4)] {
+        assert_eq!(rt; widest_within(&p, most), want, "{most}");
     }
     Ok(())
 }
@@ -320,9 +379,9 @@ fn the_longest_word_and_a_long_paragraph_are_separated(rt: HostRuntime) -> Resul
         text.push('a')?;
     }
     let p = paragraph(rt.alloc(), text.as_str())?;
-    assert_eq!(rt; part(rt.alloc(), &p)?.atoms().len(), 1 << 20);
+    assert_eq!(rt; part(rt.alloc(), &p, 0)?.atoms().len(), 1 << 20);
     let p = long_paragraph(rt.alloc(), 70_000)?;
-    assert_eq!(rt; part(rt.alloc(), &p)?.atoms().len(), 280_000);
+    assert_eq!(rt; part(rt.alloc(), &p, 0)?.atoms().len(), 280_000);
     Ok(())
 }
 
@@ -347,7 +406,7 @@ fn paragraphs_lines_and_steps_may_go_to_other_threads(rt: HostRuntime) -> Result
     let p = paragraph(rt.alloc(), "aa bb")?;
     assert!(rt; least_width(&p) <= 7);
     share(lines(rt.alloc(), &p, 5));
-    share(part(rt.alloc(), &p));
+    share(part(rt.alloc(), &p, 0));
     share(configs(rt.alloc(), &p, 7));
     share(p);
     Ok(())
