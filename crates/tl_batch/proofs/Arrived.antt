@@ -13,7 +13,7 @@ use Rattle.tl_request.specs.declared.request.Arrival.{Arrival}
 use Rattle.tl_request.specs.Arrivals.{IsTaken}
 use Rattle.tl_request.specs.Requests.{HasNoRequest, IsNext, Request}
 use Rattle.tl_batch.specs.Endings.{ending_of}
-use Rattle.tl_batch.specs.Replies.{AnswersCommand, IsReplyTo, memory_reply}
+use Rattle.tl_batch.specs.Replies.{AnswersAsked, IsReplyTo, memory_reply}
 use Rattle.tl_batch.specs.inner.Turns.{AnswersArrival, EndsTurn, TakesNext, TakesTurn}
 
 -- a request that cannot be taken ends the run by its cause
@@ -32,8 +32,8 @@ reply_by_arrival change arrival request bytes taken all =
     taken.file in
     let text = subst (λ (held : Option (List ℕ)). IfSome held (λ it. it ≡ seen MAX_CERTIFICATE_BYTES request.text))
     answers.text_held taken.text in
-    inr (subst (λ (it : List ℕ). AnswersCommand request.asked.command request.asked (seen MAX_FILE_BYTES request.file) it bytes) text
-    (subst (λ (it : List ℕ). AnswersCommand request.asked.command request.asked it answers.text bytes) file
+    inr (subst (λ (it : List ℕ). AnswersAsked request.asked (seen MAX_FILE_BYTES request.file) it bytes) text
+    (subst (λ (it : List ℕ). AnswersAsked request.asked it answers.text bytes) file
     answers.answers))
 
 -- what is sent for an arrival answers its request

@@ -10,7 +10,7 @@ use Rattle.tl_batch.specs.Replies.{memory_reply, reply_of, usage_reply}
 --     0 5 0 0 0
 --     lowest height 1 width 4
 --     a  b
-lowest_page : reply_of (reports.Lowest 1 4) (None ∷ Some (codes "a  b\n") ∷ None ∷ [])
+lowest_page : reply_of None (reports.Lowest 1 4) (None ∷ Some (codes "a  b\n") ∷ None ∷ [])
     ≡ codes "0 5 0 0 0\nlowest height 1 width 4\na  b\n"
 lowest_page = rw (
   decimal_digit 0 (omega arith),
@@ -24,7 +24,7 @@ lowest_page = rw (
 --     4 0 4 0 0
 --     narrow least 4 width 3
 --     cert
-too_narrow : reply_of (reports.Narrow 4 3) (None ∷ None ∷ Some (codes "cert") ∷ [])
+too_narrow : reply_of None (reports.Narrow 4 3) (None ∷ None ∷ Some (codes "cert") ∷ [])
     ≡ codes "4 0 4 0 0\nnarrow least 4 width 3\ncert"
 too_narrow = rw (decimal_digit 0 (omega arith), decimal_digit 4 (omega arith), decimal_digit 3 (omega arith))
 

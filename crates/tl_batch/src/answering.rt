@@ -1,13 +1,14 @@
 //! What a request is answered with.
 
 ghost use Rattle.std.specs.Prelude.{◌≡◌, ◌≢◌, ◌≤◌, IfOk, List, ℕ, map, string_bytes};
-ghost use Rattle.tl_base.specs.declared.limits.TheConstants.{MAX_HEIGHT};
-ghost use Rattle.tl_batch.specs.Replies.{AnswersCommand, TellsChecked, TellsLaid, TellsNarrowed, TellsTidied, answer_bytes};
+ghost use Rattle.tl_base.specs.declared.limits.TheConstants.{MAX_HEIGHT, MAX_PAGE_WIDTH};
+ghost use Rattle.tl_batch.specs.Replies.{AnswersAsked, AnswersCommand, TellsChecked, TellsLaid, TellsNarrowed, TellsTidied, answer_bytes};
 ghost use Rattle.tl_batch.specs.inner.Turns.{AnswersArrival, AnswersFiles};
 ghost use Rattle.tl_command.specs.declared.command.Command.TheVariants.{Demo};
 ghost use Rattle.tl_command.specs.Ask.{Asked, IsAsk, asked_by};
+ghost use Rattle.tl_command.specs.Command.{IsNumberOf};
 ghost use Rattle.tl_lay.specs.Inputs.{IsTaskInRange};
-ghost use Rattle.tl_program.specs.Tasks.{slim_task, task_of};
+ghost use Rattle.tl_program.specs.Tasks.{slim_task, task_of, task_on};
 
 use crate::reply::reply_of;
 use std::alloc::{AllocError, Global};
@@ -15,7 +16,7 @@ use std::thread::Threads;
 use tl_base::{Gate, MAX_PAGE_WIDTH};
 use tl_command::{Ask, Command};
 use tl_lay::{Answer, check, lay, narrow, tidy};
-use tl_program::{Report, task_of, task_on, texts_of};
+use tl_program::{Report, fitted_in, settled, task_of, task_on, texts_of};
 use tl_request::Arrival;
 
 /// The answer to a request that was taken. The error says that memory ran out.
@@ -52,7 +53,26 @@ fn answer_files<R: Threads + Sync, G: Gate>(
     let Some(text) = &arrival.text else {
         return Err(AllocError);
     };
-    answer_command(rt, alloc, ask, file.as_slice(), text.as_slice(), gate)
+    answer_asked(rt, alloc, ask, file.as_slice(), text.as_slice(), gate)
+}
+
+/// The answer to what is asked of the bytes of a file: with `fit` the breaking is found for them.
+fn answer_asked<R: Threads + Sync, G: Gate>(
+    rt: &R,
+    alloc: Global,
+    ask: &Ask<'_>,
+    file: &[u8],
+    text: &[u8],
+    gate: &G,
+) -> Result<Vec<u8>, AllocError>
+    requires asks { (words : List (List ℕ)) × IsAsk words (asked_by ask.now) }
+    requires reads { ask.now.command ≢ Demo }
+    ensures { IfOk result (λ bytes. AnswersAsked (asked_by ask.now) file.now text.now bytes.items) }
+{
+    let Ok(ask) = settled(alloc, ask, file) else {
+        return Err(AllocError);
+    };
+    answer_command(rt, alloc, &ask, file, text, gate)
 }
 
 /// The answer to what is asked of the bytes of a file, and of those of a certificate, if it is a check.
@@ -64,7 +84,8 @@ fn answer_command<R: Threads + Sync, G: Gate>(
     text: &[u8],
     gate: &G,
 ) -> Result<Vec<u8>, AllocError>
-    requires asks { (words : List (List ℕ)) × IsAsk words (asked_by ask.now) }
+    requires number { IsNumberOf ask.now.command ask.now.number }
+    requires range { (width : ℕ) → 1 ≤ width → width ≤ MAX_PAGE_WIDTH → IsTaskInRange (task_on width (asked_by ask.now)) }
     requires reads { ask.now.command ≢ Demo }
     ensures { IfOk result (λ bytes. AnswersCommand ask.now.command (asked_by ask.now) file.now text.now bytes.items) }
 {
@@ -90,7 +111,7 @@ fn answer_lay<R: Threads + Sync, G: Gate>(
 {
     let task = task_of(ask);
     let answer = lay(rt, alloc, &task, file, gate)?;
-    tell(alloc, answer)
+    tell(alloc, ask, answer)
 }
 
 /// What `narrow` answers.
@@ -107,7 +128,7 @@ fn answer_narrow<R: Threads + Sync, G: Gate>(
 {
     let task = task_on(ask, MAX_PAGE_WIDTH);
     let answer = narrow(rt, alloc, &task, ask.number, file, gate)?;
-    tell(alloc, answer)
+    tell(alloc, ask, answer)
 }
 
 /// What `tidy` answers.
@@ -123,7 +144,7 @@ fn answer_tidy<R: Threads + Sync, G: Gate>(
 {
     let task = task_of(ask);
     let answer = tidy(rt, alloc, &task, file, gate)?;
-    tell(alloc, answer)
+    tell(alloc, ask, answer)
 }
 
 /// What `check` finds.
@@ -140,14 +161,14 @@ fn answer_check<R: Threads + Sync, G: Gate>(
 {
     let task = task_of(ask);
     let verdict = check(rt, alloc, &task, file, text, gate)?;
-    reply_of(alloc, Report::of_verdict(verdict), &[])
+    reply_of(alloc, Report::of_verdict(verdict), fitted_in(ask), &[])
 }
 
 /// The bytes of an answer with its page and its certificates.
-fn tell(alloc: Global, answer: Answer) -> Result<Vec<u8>, AllocError>
-    ensures { IfOk result (λ bytes. bytes.items ≡ answer_bytes answer) }
+fn tell(alloc: Global, ask: &Ask<'_>, answer: Answer) -> Result<Vec<u8>, AllocError>
+    ensures { IfOk result (λ bytes. bytes.items ≡ answer_bytes (asked_by ask.now) answer) }
 {
     let report = Report::of_answer(&answer);
     let texts = texts_of(alloc, answer)?;
-    reply_of(alloc, report, texts.as_slice())
+    reply_of(alloc, report, fitted_in(ask), texts.as_slice())
 }

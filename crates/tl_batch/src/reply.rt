@@ -21,15 +21,17 @@ pub fn usage_reply() -> &'static [u8]
     b"2 0 0 0 0\nusage\n"
 }
 
-/// The answer that reports this, with these texts of an answer.
+/// The answer that reports this, with the number of columns above which words may break, where that was found, and
+/// with these texts of an answer.
 pub fn reply_of(
     alloc: Global,
     report: Report,
+    most: Option<u32>,
     texts: &[Option<List<u8>>],
 ) -> Result<Vec<u8>, AllocError>
-    ensures { IfOk result (λ bytes. bytes.items ≡ reply_of report texts.now) }
+    ensures { IfOk result (λ bytes. bytes.items ≡ reply_of most report texts.now) }
 {
-    let message = message_text(alloc, report)?;
+    let message = message_text(alloc, report, most)?;
     let head = head(alloc, report.status().number(), message.as_str(), texts)?;
     let mut bytes = head.into_bytes();
     bytes.extend_from_slice(text_at(texts, 1))?;

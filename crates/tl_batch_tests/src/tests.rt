@@ -132,6 +132,10 @@ fn each_command_is_answered_with_its_message_and_its_page(rt: HostRuntime) -> Re
                 "4 0 0 0 0\nnarrow least 4 width 3\n",
             ),
             (
+                "lay 9 --break fit 33\n<table><tr><td>src/lib.rt</table>",
+                "0 14 0 0 0\nlowest height 2 width 6 break 9\nsrc/  \nlib.rt\n",
+            ),
+            (
                 "narrow 1 29\n<table><tr><td>a<td>b</table>",
                 "0 5 0 0 0\nslimmest width 4 height 1\na  b\n",
             ),

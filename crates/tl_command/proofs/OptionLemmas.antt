@@ -1,9 +1,10 @@
 -- What has been read of options, and that arguments spell at most one list of them.
 use Rattle.std.proofs.Common.{◌≡◌, ◌≢◌, ◌⊎◌, inl, inr, ◌↔◌, ℕ, List, [], ◌∷◌, ◌++◌, ◌+◌, ◌*◌, Option, Some, None}
 use Rattle.std.proofs.Common.{refl, sym, ap, subst, ◌∙◌, decimal, get_or, arith}
-use Rattle.std.specs.Prelude.{Contains, is_some, true}
+use Rattle.std.specs.Prelude.{Contains, codes, is_some, false, true, ◌≤◌}
 use Rattle.std.specs.List.{All, AllPairs, flat_map}
-use Rattle.std.proofs.lemmas.Fmt.{decimal_injective}
+use Rattle.std.specs.Str.{all_ascii_digits}
+use Rattle.std.proofs.lemmas.Fmt.{decimal_injective, decimal_is_IsNumeral}
 use Rattle.std.proofs.lemmas.List.{append-nil}
 use Rattle.std.proofs.lemmas.List.Concat.{flat_map-cons}
 use Rattle.std.proofs.lemmas.Grind.{common_steps}
@@ -11,20 +12,22 @@ use Rattle.std.proofs.lemmas.List.Elements.{All-push, All-nil, All-head, All-tai
 use Rattle.std.proofs.lemmas.List.Elements.{Contains-append_left, Contains-append_right, Contains-push}
 use Rattle.tl_base.proofs.Members.{AllPairs-none, AllPairs-cons, AllPairs-head, AllPairs-tail, first-same, rest-same}
 use Rattle.tl_base.proofs.Members.{AllPairs-append, Contains-first, Contains-cases, Contains-none}
-use Rattle.tl_base.specs.declared.breaking.Breaking.{Breaking}
-use Rattle.tl_base.specs.declared.breaking.Breaking.TheVariants.{Words, Any}
 use Rattle.tl_base.specs.declared.style.Style.{Style}
 use Rattle.tl_base.specs.declared.style.Style.TheVariants as styles
+use Rattle.tl_base.specs.declared.limits.TheConstants.{MAX_PAGE_WIDTH}
+use Rattle.tl_base.proofs.Decimals.{own}
 use Rattle.tl_base.proofs.Texts.{same_test}
 use Rattle.tl_command.specs.declared.command.Command.{Command}
 use Rattle.tl_base.specs.Style.{style_word}
+use Rattle.tl_command.specs.declared.options.BreakRule.{BreakRule}
+use Rattle.tl_command.specs.declared.options.BreakRule.TheVariants as rules
 use Rattle.tl_command.specs.declared.options.Choice.{Choice}
 use Rattle.tl_command.specs.declared.options.Choice.TheVariants as choices
 use Rattle.tl_command.specs.declared.options.Options.{Options}
-use Rattle.tl_command.specs.declared.options.Search.{Search}
-use Rattle.tl_command.specs.declared.options.Search.TheVariants as searches
+use Rattle.tl_base.specs.declared.search.Search.{Search}
+use Rattle.tl_base.specs.declared.search.Search.TheVariants as searches
 use Rattle.tl_command.specs.Options.{name_of, option_words, break_word, search_word, list_word}
-use Rattle.tl_command.specs.Options.{IsInRange, IsOptionOf, IsGiven, AreOfCsv, AreOptions}
+use Rattle.tl_command.specs.Options.{IsBreakRule, IsInRange, IsOptionOf, IsGiven, AreOfCsv, AreOptions}
 use Rattle.tl_command.specs.inner.OptionsRead.{HasReadOptions}
 use Rattle.tl_command.proofs.ListLemmas.{list_once}
 
@@ -42,10 +45,27 @@ style_once styles.Compact styles.Compact e = refl
 style_once styles.Frame styles.Frame e = refl
 style_once one other e = absurd (omega (arith, ap (λ (word : List ℕ). get_or word 0 0) e))
 
-break_once : (one other : Breaking) → break_word one ≡ break_word other → one ≡ other
-break_once Words Words e = refl
-break_once Any Any e = refl
-break_once one other e = absurd (omega (arith, ap (λ (word : List ℕ). get_or word 0 0) e))
+-- a word with another character than a digit is no number
+no_number : (word : List ℕ) (number : ℕ) → all_ascii_digits word ≡ false → number ≤ MAX_PAGE_WIDTH → word ≡ decimal number → ⊥
+no_number word number letters small is =
+    let digits = own.from (decimal number) (decimal_is_IsNumeral number (omega (arith, small))).0.1 in
+    absurd (cc)
+
+break_once : (one other : BreakRule) → IsBreakRule one → IsBreakRule other → break_word one ≡ break_word other → one ≡ other
+break_once rules.Words rules.Words small tiny e = refl
+break_once rules.Any rules.Any small tiny e = refl
+break_once rules.Fit rules.Fit small tiny e = refl
+break_once (rules.Fitted most) other small tiny e = absurd small
+break_once one (rules.Fitted most) small tiny e = absurd tiny
+break_once (rules.Wider most) (rules.Wider least) small tiny e =
+    ap rules.Wider (decimal_injective most least (omega (arith, small)) (omega (arith, tiny)) e)
+break_once rules.Words (rules.Wider most) small tiny e = absurd (no_number (codes "words") most refl tiny e)
+break_once (rules.Wider most) rules.Words small tiny e = absurd (no_number (codes "words") most refl small (sym e))
+break_once rules.Any (rules.Wider most) small tiny e = absurd (no_number (codes "any") most refl tiny e)
+break_once (rules.Wider most) rules.Any small tiny e = absurd (no_number (codes "any") most refl small (sym e))
+break_once rules.Fit (rules.Wider most) small tiny e = absurd (no_number (codes "fit") most refl tiny e)
+break_once (rules.Wider most) rules.Fit small tiny e = absurd (no_number (codes "fit") most refl small (sym e))
+break_once one other small tiny e = absurd (omega (arith, ap (λ (word : List ℕ). get_or word 0 0) e))
 
 search_once : (one other : Search) → search_word one ≡ search_word other → one ≡ other
 search_once searches.Plain searches.Plain e = refl
@@ -71,8 +91,11 @@ pub prefix_free : (one other : Choice) (xs ys : List (List ℕ)) → IsInRange o
     option_words one ++ xs ≡ option_words other ++ ys → (one ≡ other) × (xs ≡ ys)
 prefix_free (choices.Style style) (choices.Style style2) xs ys small tiny e =
     value_once style_word choices.Style style_once style style2 xs ys cc
-prefix_free (choices.Breaking breaking) (choices.Breaking breaking2) xs ys small tiny e =
-    value_once break_word choices.Breaking break_once breaking breaking2 xs ys cc
+prefix_free (choices.Breaking rule) (choices.Breaking rule2) xs ys small tiny e =
+    let after : break_word rule ∷ xs ≡ break_word rule2 ∷ ys = cc in (
+      ap choices.Breaking (break_once rule rule2 small tiny (first-same (break_word rule) (break_word rule2) xs ys after)),
+      rest-same (break_word rule) (break_word rule2) xs ys after,
+    )
 prefix_free (choices.Budget budget) (choices.Budget budget2) xs ys small tiny e =
     let after : decimal budget ∷ xs ≡ decimal budget2 ∷ ys = cc in
     let same : budget ≡ budget2 = decimal_injective budget budget2 (omega (arith, small)) (omega (arith, tiny))

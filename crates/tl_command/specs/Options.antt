@@ -1,28 +1,31 @@
--- The options of a command: `--style plain|compact|frame`, `--break words|any`, `--budget N`,
+-- The options of a command: `--style plain|compact|frame`, `--break words|any|fit|N`, `--budget N`,
 -- `--solver plain|best|learn|rounds`, `--workers K`, `--csv`, `--head`, `--least LIST` and `--html`, in any order, each at most
 -- once, its value as the next argument.
 use Rattle.std.specs.Prelude.{◌≡◌, ◌≢◌, ◌↔◌, ℕ, ◌≤◌, Bool, true, false, List, [], ◌∷◌, ◌++◌, length, drop, Some, IsTrue, Contains}
 use Rattle.std.specs.Prelude.{codes, decimal}
 use Rattle.std.specs.List.{All, AllPairs, flat_map}
-use Rattle.tl_base.specs.declared.breaking.Breaking.{Breaking}
-use Rattle.tl_base.specs.declared.breaking.Breaking.TheVariants.{Words, Any}
 use Rattle.tl_base.specs.declared.limits.TheConstants.{MAX_BUDGET, MAX_COLUMNS, MAX_PAGE_WIDTH}
 use Rattle.tl_base.specs.Style.{style_word}
 use Rattle.tl_command.specs.declared.command.Command.{Command}
+use Rattle.tl_command.specs.declared.options.BreakRule.{BreakRule}
+use Rattle.tl_command.specs.declared.options.BreakRule.TheVariants as rules
 use Rattle.tl_command.specs.declared.options.Choice.{Choice}
 use Rattle.tl_command.specs.declared.options.Choice.TheVariants as choices
 use Rattle.tl_command.specs.declared.options.Options.{Options}
-use Rattle.tl_command.specs.declared.options.Search.{Search}
-use Rattle.tl_command.specs.declared.options.Search.TheVariants as searches
+use Rattle.tl_base.specs.declared.search.Search.{Search}
+use Rattle.tl_base.specs.declared.search.Search.TheVariants as searches
 use Rattle.tl_command.specs.declared.options.TheConstants.{MAX_WORKERS}
 use Rattle.tl_command.specs.Command.{takes}
 
 -- ---- how an option is spelled
 
--- how breaks between words alone, or between any two characters, are spelled
-abbrev pub break_word : Breaking → List ℕ
-break_word Words = codes "words"
-break_word Any = codes "any"
+-- how it is spelled which words may break: none, each, as few as can be, or those that are wider than so many columns
+abbrev pub break_word : BreakRule → List ℕ
+break_word rules.Words = codes "words"
+break_word rules.Any = codes "any"
+break_word (rules.Wider most) = decimal most
+break_word rules.Fit = codes "fit"
+break_word (rules.Fitted most) = []
 
 -- how a search is spelled
 abbrev pub search_word : Search → List ℕ
@@ -42,7 +45,7 @@ list_word numbers = drop 1 (comma_numbers numbers)
 -- the argument that names an option
 abbrev pub name_of : Choice → List ℕ
 name_of (choices.Style style) = codes "--style"
-name_of (choices.Breaking breaking) = codes "--break"
+name_of (choices.Breaking rule) = codes "--break"
 name_of (choices.Budget budget) = codes "--budget"
 name_of (choices.Search search) = codes "--solver"
 name_of (choices.Workers workers) = codes "--workers"
@@ -54,7 +57,7 @@ name_of choices.Html = codes "--html"
 -- the argument of its value, where it has one
 abbrev pub values_of : Choice → List (List ℕ)
 values_of (choices.Style style) = style_word style ∷ []
-values_of (choices.Breaking breaking) = break_word breaking ∷ []
+values_of (choices.Breaking rule) = break_word rule ∷ []
 values_of (choices.Budget budget) = decimal budget ∷ []
 values_of (choices.Search search) = search_word search ∷ []
 values_of (choices.Workers workers) = decimal workers ∷ []
@@ -68,6 +71,14 @@ abbrev pub option_words : Choice → List (List ℕ)
 option_words choice = name_of choice ∷ values_of choice
 
 -- ---- which options there are
+
+-- words may be wider than a number of columns that a page may have; what is found for a file is not given
+abbrev pub IsBreakRule : BreakRule → Type 0
+IsBreakRule rules.Words = Unit {0}
+IsBreakRule rules.Any = Unit {0}
+IsBreakRule (rules.Wider most) = most ≤ MAX_PAGE_WIDTH
+IsBreakRule rules.Fit = Unit {0}
+IsBreakRule (rules.Fitted most) = ⊥
 
 -- the workers are as many as there may be
 pub record AreWorkers (workers : ℕ) : Type 0 where
@@ -83,7 +94,7 @@ pub record AreFloors (floors : List ℕ) : Type 0 where
 -- the value is within its limits
 abbrev pub IsInRange : Choice → Type 0
 IsInRange (choices.Style style) = Unit {0}
-IsInRange (choices.Breaking breaking) = Unit {0}
+IsInRange (choices.Breaking rule) = IsBreakRule rule
 IsInRange (choices.Budget budget) = budget ≤ MAX_BUDGET
 IsInRange (choices.Search search) = Unit {0}
 IsInRange (choices.Workers workers) = AreWorkers workers
@@ -100,7 +111,7 @@ pub record IsOptionOf (command : Command) (choice : Choice) : Type 0 where
 -- the options say this
 abbrev pub IsGiven : Options → Choice → Type 0
 IsGiven options (choices.Style style) = options.style ≡ Some style
-IsGiven options (choices.Breaking breaking) = options.breaking ≡ Some breaking
+IsGiven options (choices.Breaking rule) = options.breaking ≡ Some rule
 IsGiven options (choices.Budget budget) = options.budget ≡ Some budget
 IsGiven options (choices.Search search) = options.search ≡ Some search
 IsGiven options (choices.Workers workers) = options.workers ≡ Some workers
@@ -114,7 +125,7 @@ IsGiven options choices.Html = options.html ≡ true
 -- which options speak of a CSV file
 abbrev pub speaks_of_csv : Choice → Bool
 speaks_of_csv (choices.Style style) = false
-speaks_of_csv (choices.Breaking breaking) = false
+speaks_of_csv (choices.Breaking rule) = false
 speaks_of_csv (choices.Budget budget) = false
 speaks_of_csv (choices.Search search) = false
 speaks_of_csv (choices.Workers workers) = false

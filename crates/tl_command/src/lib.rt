@@ -15,4 +15,4 @@ mod values;
 pub use ask::Ask;
 pub use command::Command;
 pub use numbers::number_within;
-pub use options::{Choice, MAX_WORKERS, Options, Search};
+pub use options::{BreakRule, Choice, MAX_WORKERS, Options};

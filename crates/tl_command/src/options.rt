@@ -11,23 +11,26 @@ use crate::command::Command;
 use crate::values::{
     breaking_named, budget_named, least_named, search_named, style_named, workers_named,
 };
-use tl_base::{Breaking, Style};
+use tl_base::{Search, Style};
 use tl_floors::Floors;
 
 /// How many workers there may be.
 pub const MAX_WORKERS: u32 = 16;
 
-/// The search that finds the layout.
+/// Which words may break.
 #[derive(Clone, Copy)]
-pub enum Search {
-    /// Cuts the first span that can be cut.
-    Plain,
-    /// Cuts where the lower bound is least.
-    Best,
-    /// Cuts as the plain search does, and keeps what each part of the search has shown.
-    Learn,
-    /// Deals the zones that are left out to the workers, round by round.
-    Rounds,
+pub enum BreakRule {
+    /// None: a line ends between words alone.
+    Words,
+    /// Each, between any two of its grapheme clusters.
+    Any,
+    /// Those that are wider than so many columns, at most [`tl_base::MAX_PAGE_WIDTH`].
+    Wider(u32),
+    /// As few as can be so that a page of the width holds the table.
+    Fit,
+    /// Those that are wider than so many columns: what [`BreakRule::Fit`] comes to for a file whose words
+    /// do not all fit whole. No argument spells it.
+    Fitted(u32),
 }
 
 /// An option that is given.
@@ -35,8 +38,8 @@ pub enum Search {
 pub enum Choice {
     /// `--style plain|compact|frame`.
     Style(Style),
-    /// `--break words|any`.
-    Breaking(Breaking),
+    /// `--break words|any|fit|N`, with N at most [`tl_base::MAX_PAGE_WIDTH`].
+    Breaking(BreakRule),
     /// `--budget N`, with N at most [`tl_base::MAX_BUDGET`].
     Budget(u32),
     /// `--solver plain|best|learn|rounds`.
@@ -58,8 +61,8 @@ pub enum Choice {
 pub struct Options {
     /// How the table is drawn.
     pub style: Option<Style>,
-    /// Where a line may end.
-    pub breaking: Option<Breaking>,
+    /// Which words may break.
+    pub breaking: Option<BreakRule>,
     /// How many cuts each search may make, at most [`tl_base::MAX_BUDGET`].
     pub budget: Option<u32>,
     /// Which search finds the layout.

@@ -1,16 +1,16 @@
 //! The values of options, as their arguments spell them.
 
 ghost use Rattle.std.specs.Prelude.{◌≡◌, ◌≢◌, ◌≤◌, ◌∷◌, ℕ, List, [], codes, decimal, IfSome, IfNone};
-ghost use Rattle.tl_base.specs.declared.breaking.Breaking.{Breaking};
 ghost use Rattle.tl_base.specs.declared.style.Style.{Style};
 ghost use Rattle.tl_base.specs.Style.{style_word};
-ghost use Rattle.tl_command.specs.declared.options.Search.{Search};
-ghost use Rattle.tl_command.specs.Options.{option_words, break_word, search_word, list_word, IsInRange, AreFloors, AreWorkers};
+ghost use Rattle.tl_base.specs.declared.search.Search.{Search};
+ghost use Rattle.tl_command.specs.declared.options.BreakRule.{BreakRule};
+ghost use Rattle.tl_command.specs.Options.{option_words, break_word, search_word, list_word, IsInRange, AreFloors, AreWorkers, IsBreakRule};
 
 use crate::lists::floors_listed;
 use crate::numbers::number_within;
-use crate::options::{Choice, MAX_WORKERS, Search};
-use tl_base::{Breaking, MAX_BUDGET, Style};
+use crate::options::{BreakRule, Choice, MAX_WORKERS};
+use tl_base::{MAX_BUDGET, MAX_PAGE_WIDTH, Search, Style};
 
 pub(crate) fn style_named(value: &str) -> Option<Choice>
     ensures range { IfSome result IsInRange }
@@ -28,12 +28,16 @@ pub(crate) fn style_named(value: &str) -> Option<Choice>
 pub(crate) fn breaking_named(value: &str) -> Option<Choice>
     ensures range { IfSome result IsInRange }
     ensures spelled { IfSome result (λ choice. option_words choice ≡ codes "--break" ∷ value.now ∷ []) }
-    ensures none { IfNone result ((breaking : Breaking) → break_word breaking ≢ value.now) }
+    ensures none { IfNone result ((rule : BreakRule) → IsBreakRule rule → break_word rule ≢ value.now) }
 {
     match value {
-        "words" => Some(Choice::Breaking(Breaking::Words)),
-        "any" => Some(Choice::Breaking(Breaking::Any)),
-        _ => None,
+        "words" => Some(Choice::Breaking(BreakRule::Words)),
+        "any" => Some(Choice::Breaking(BreakRule::Any)),
+        "fit" => Some(Choice::Breaking(BreakRule::Fit)),
+        _ => {
+            let most = number_within(value, 0, MAX_PAGE_WIDTH)?;
+            Some(Choice::Breaking(BreakRule::Wider(most)))
+        }
     }
 }
 

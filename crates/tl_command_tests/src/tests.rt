@@ -3,8 +3,8 @@
 use std::alloc::{AllocError, Global};
 use std::process::Abort;
 use std::test::Fail;
-use tl_base::{Breaking, Style};
-use tl_command::{Ask, Choice, Command, Options, Search};
+use tl_base::{Search, Style};
+use tl_command::{Ask, BreakRule, Choice, Command, Options};
 use tl_floors::Floors;
 
 /// Command lines beside what they ask for: the command, the number, the names, and after `:` each
@@ -19,6 +19,11 @@ const ASKS: &[(&str, &str)] = &[
     ("lay 7 t p --style frame", "lay 7 t p : style=frame"),
     ("lay 7 t p --break words", "lay 7 t p : break=words"),
     ("lay 7 t p --break any", "lay 7 t p : break=any"),
+    ("lay 7 t p --break fit", "lay 7 t p : break=fit"),
+    ("check 7 t c --break fit", "check 7 t c : break=fit"),
+    ("lay 7 t p --break 0", "lay 7 t p : break=0"),
+    ("lay 7 t p --break 500", "lay 7 t p : break=500"),
+    ("check 7 t c --break 12 --csv", "check 7 t c : break=12 csv"),
     ("lay 7 t p --budget 0", "lay 7 t p : budget=0"),
     ("lay 7 t p --budget 100000", "lay 7 t p : budget=100000"),
     ("lay 7 t p --solver plain", "lay 7 t p : solver=plain"),
@@ -203,6 +208,7 @@ const TWICE: &[&str] = &[
     "lay 7 t p --style plain --style plain",
     "lay 7 t p --style plain --style frame",
     "lay 7 t p --break any --break words",
+    "lay 7 t p --break any --break 0",
     "lay 7 t p --budget 1 --budget 2",
     "lay 7 t p --solver best --solver plain",
     "lay 7 t p --html --budget 5 --html",
@@ -242,6 +248,11 @@ const VALUES: &[&str] = &[
     "lay 7 t p --break all",
     "lay 7 t p --break word",
     "lay 7 t p --break any any",
+    "lay 7 t p --break fitted",
+    "lay 7 t p --break 501",
+    "lay 7 t p --break 05",
+    "lay 7 t p --break -1",
+    "lay 7 t p --break 5.0",
     "lay 7 t p --budget",
     "lay 7 t p --budget ",
     "lay 7 t p --budget 100001",
@@ -345,10 +356,15 @@ fn style_word(style: Style) -> &'static str {
     }
 }
 
-fn break_word(breaking: Breaking) -> &'static str {
-    match breaking {
-        Breaking::Words => "words",
-        Breaking::Any => "any",
+/// Which words may break, where it is given.
+fn push_break(alloc: Global, text: &mut String, rule: Option<BreakRule>) -> Result<(), AllocError> {
+    match rule {
+        None => Ok(()),
+        Some(BreakRule::Words) => text.push_str(" break=words"),
+        Some(BreakRule::Any) => text.push_str(" break=any"),
+        Some(BreakRule::Fit) => text.push_str(" break=fit"),
+        Some(BreakRule::Wider(most)) => push_number(alloc, text, "break", Some(most)),
+        Some(BreakRule::Fitted(most)) => push_number(alloc, text, "fitted", Some(most)),
     }
 }
 
@@ -411,7 +427,7 @@ fn push_least(alloc: Global, text: &mut String, least: &Option<Floors>) -> Resul
 /// The options in words, each after a space.
 fn push_options(alloc: Global, text: &mut String, options: &Options) -> Result<(), AllocError> {
     push_word(alloc, text, "style", options.style.map(style_word))?;
-    push_word(alloc, text, "break", options.breaking.map(break_word))?;
+    push_break(alloc, text, options.breaking)?;
     push_number(alloc, text, "budget", options.budget)?;
     push_word(alloc, text, "solver", options.search.map(search_word))?;
     push_number(alloc, text, "workers", options.workers)?;

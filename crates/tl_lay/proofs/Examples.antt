@@ -4,7 +4,7 @@ use Rattle.std.proofs.lemmas.List.{length-append}
 use Rattle.std.proofs.lemmas.List.Concat.{flat_map-cons}
 use Rattle.tl_base.specs.declared.breaking.Breaking.TheVariants.{Words}
 use Rattle.tl_base.specs.declared.style.Style.TheVariants as styles
-use Rattle.tl_command.specs.declared.options.Search.TheVariants.{Best}
+use Rattle.tl_base.specs.declared.search.Search.TheVariants.{Best}
 use Rattle.tl_table.specs.declared.cell.Table.{Table}
 use Rattle.tl_table.specs.declared.layout.Layout.{Layout}
 use Rattle.tl_narrow.specs.declared.slim.Slim.{Slim}

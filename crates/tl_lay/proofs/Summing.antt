@@ -21,7 +21,7 @@ use Rattle.tl_table.proofs.SameFits.{same_least}
 use Rattle.tl_form.proofs.ValidLaws.{IsOwnLast, own_last}
 use Rattle.tl_nested.specs.Searched.{AreSectionsOf, AreWritable}
 use Rattle.tl_lay.specs.declared.limits.TheConstants.{DEMO_BUDGET}
-use Rattle.tl_command.specs.declared.options.Search.TheVariants.{Best}
+use Rattle.tl_base.specs.declared.search.Search.TheVariants.{Best}
 use Rattle.tl_read.specs.declared.reading.Reading.{Reading}
 use Rattle.tl_read.specs.declared.reading.Reading.TheVariants as readings
 use Rattle.tl_lay.specs.declared.summary.Summary.{Summary}

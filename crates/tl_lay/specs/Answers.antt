@@ -15,8 +15,8 @@ use Rattle.tl_cert.specs.declared.certificate.Claim.{Claim}
 use Rattle.tl_cert.specs.declared.certificate.Claim.TheVariants as claims
 use Rattle.tl_cert.specs.Faults.{IsTextOf}
 use Rattle.tl_cert.specs.Text.{cert_text}
-use Rattle.tl_command.specs.declared.options.Search.{Search}
-use Rattle.tl_command.specs.declared.options.Search.TheVariants as kinds
+use Rattle.tl_base.specs.declared.search.Search.{Search}
+use Rattle.tl_base.specs.declared.search.Search.TheVariants as kinds
 use Rattle.tl_table.specs.declared.cell.Table.{Table}
 use Rattle.tl_table.specs.declared.layout.Layout.{Layout, out-Layout}
 use Rattle.tl_table.specs.Layouts.{Fits, total_width}

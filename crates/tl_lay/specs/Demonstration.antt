@@ -14,7 +14,7 @@ use Rattle.tl_nested.specs.Searched.{AreSectionsOf}
 use Rattle.tl_problem.specs.Problem.{ProblemModel}
 use Rattle.tl_problem.specs.Spans.{count_of}
 use Rattle.tl_lay.specs.declared.limits.TheConstants.{DEMO_BUDGET}
-use Rattle.tl_command.specs.declared.options.Search.TheVariants.{Best}
+use Rattle.tl_base.specs.declared.search.Search.TheVariants.{Best}
 use Rattle.tl_read.specs.declared.reading.Reading.TheVariants as readings
 use Rattle.tl_lay.specs.declared.summary.Summary.{Summary}
 use Rattle.tl_lay.specs.Answers.{IsOutcomeOf}

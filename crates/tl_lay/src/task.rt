@@ -3,8 +3,7 @@
 ghost use Rattle.std.specs.Prelude.{◌≡◌, ◌≤◌};
 
 use std::alloc::Global;
-use tl_base::Style;
-use tl_command::Search;
+use tl_base::{Search, Style};
 use tl_fan::Run;
 use tl_read::Source;
 

@@ -33,6 +33,7 @@ use Rattle.tl_program.specs.Headline.{Ends}
 use Rattle.tl_program.specs.Messages.{status_number, status_of}
 use Rattle.tl_program.specs.Reports.{report_of}
 use Rattle.tl_program.specs.Tasks.{task_of, task_on}
+use Rattle.tl_program.proofs.Asking.{ask_for}
 use Rattle.tl_program.proofs.Checked.{accepted_so}
 use Rattle.tl_program.proofs.LaidRuns.{laid_run}
 use Rattle.tl_program.proofs.NamedFiles.{HasOtherNames, StandsAt, first_apart, holds_through, named_otherwise, text_there}
@@ -109,7 +110,8 @@ module _ (words : List (List ℕ)) (change : Change) (status : ℕ) (ends : Ends
 
   -- so the check has the status of the claim
   pub accepted : (status ≡ status_number (claim_status certificate.claim)) ⊎ (status ≡ 9)
-  accepted = accepted_so words change status ends checked content text table certificate is_check
+  accepted = accepted_so words change status ends checked content text table certificate
+      (ask_for Check words checked content is_check)
       (files, found, ap files (sym same.input) ∙ input_stays) (files, found, text_stored) quiet spells text_is valid_in
 
 -- ---- `lay`

@@ -12,7 +12,8 @@ use Rattle.tl_program.specs.declared.report.Report.{Report}
 use Rattle.tl_lay.specs.declared.task.Task.{Task}
 use Rattle.tl_lay.specs.declared.verdict.Verdict.{Verdict}
 use Rattle.tl_lay.proofs.OneJudgement.{valid_alike}
-use Rattle.tl_program.specs.Asks.{IsAskOf, input_name, judged_name}
+use Rattle.tl_program.specs.Asks.{input_name, judged_name}
+use Rattle.tl_program.specs.Settled.{IsAskFor}
 use Rattle.tl_program.specs.Change.{Change, DoesNotFail}
 use Rattle.tl_lay.specs.Checks.{IsShownAs, lowest_shown, bounded_shown, narrow_shown, IsJudged}
 use Rattle.tl_program.specs.Checks.{IsChecked}
@@ -21,20 +22,20 @@ use Rattle.tl_program.specs.Headline.{Ends}
 use Rattle.tl_program.specs.Messages.{status_number, status_of}
 use Rattle.tl_program.specs.Reports.{verdict_report}
 use Rattle.tl_program.specs.Tasks.{task_of}
-use Rattle.tl_program.proofs.Ends.{same_bytes, went, own_input}
+use Rattle.tl_program.proofs.Ends.{same_bytes, went_for, own_input}
 
 -- the status of a verdict
 abbrev verdict_status : Verdict → ℕ
 verdict_status verdict = status_number (status_of (verdict_report verdict))
 
 module _ (words : List (List ℕ)) (change : Change) (status : ℕ) (ends : Ends words change status) (asked : Asked)
-    (bytes text : List ℕ) (table : Table) (is : IsAskOf Check words asked) (input : ShowsFile change (input_name asked) bytes)
+    (bytes text : List ℕ) (table : Table) (is : IsAskFor Check words bytes asked) (input : ShowsFile change (input_name asked) bytes)
     (certificate : ShowsFile change (judged_name asked) text) (quiet : DoesNotFail change)
     (spells : SpellsTable (task_of asked) bytes table) where
   -- a check which did not fail has the status of the verdict on the text, for the table as it was read
   judged_status : (n : ℕ) → ((found : Table) → AreSame found table → (verdict : Verdict) →
       IsJudged (task_of asked) found text verdict → verdict_status verdict ≡ n) → (status ≡ n) ⊎ (status ≡ 9)
-  judged_status n by_verdict = elim (went words change status Check asked ends is quiet) [
+  judged_status n by_verdict = elim (went_for words change status Check asked bytes ends is input quiet) [
     | inl so ↦
         let own = own_input asked.number asked (IsChecked asked change.files) change so.0 so.1 bytes input quiet table spells in
         let judged = own.2.judged in

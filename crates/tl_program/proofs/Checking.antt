@@ -1,5 +1,5 @@
 -- What is loaded for a check, as what the files hold.
-use Rattle.std.proofs.Common.{◌≡◌, ◌⊎◌, inl, inr, ℕ, ◌+◌, ◌<◌, ◌≤◌, List, length, take, Option, refl, sym, ◌∙◌, ap, subst, arith}
+use Rattle.std.proofs.Common.{◌≡◌, ◌⊎◌, inl, inr, ℕ, ◌+◌, ◌<◌, ◌≤◌, List, [], length, take, Option, refl, sym, ◌∙◌, ap, subst, arith}
 use Rattle.std.specs.Prelude.{IfOk, IfSome, Result, Ok, Err}
 use Rattle.std.specs.declared.alloc.AllocError.{AllocError}
 use Rattle.std.proofs.lemmas.Bool.{cases_lt}
@@ -23,10 +23,11 @@ use Rattle.tl_lay.specs.Inputs.{GivesInput}
 use Rattle.tl_lay.proofs.Inputs.{long_same, of_bytes_mapped, of_given, own_or_refused}
 use Rattle.tl_program.specs.declared.report.Report.{Report}
 use Rattle.tl_program.specs.declared.report.Report.TheVariants as reports
-use Rattle.tl_program.specs.Asks.{input_name, judged_name}
+use Rattle.tl_program.specs.Asks.{fitted_in, input_name, judged_name}
 use Rattle.tl_program.specs.Change.{Change}
+use Rattle.tl_program.specs.Messages.{of_page}
 use Rattle.tl_program.specs.Checks.{IsChecked, IsJudgedIn}
-use Rattle.tl_program.specs.Deliveries.{ComesOfInput, reported}
+use Rattle.tl_program.specs.Deliveries.{ComesOfInput, Delivery, reported}
 use Rattle.tl_program.specs.Tasks.{task_of}
 use Rattle.tl_program.specs.Reports.{verdict_report}
 use Rattle.tl_program.specs.inner.Steps.{ReportsOn}
@@ -118,21 +119,25 @@ unread_reports Rises task bytes Own (Ok report) rises told = elim
 
 -- ---- how a check ends
 
+-- what is reported of a check
+abbrev pub checked_of : Asked → Report → Delivery
+checked_of asked report = record { report = report; most = of_page (fitted_in asked) report; stores = [] }
+
 -- what is reported is what comes of the file
 pub check_comes : (asked : Asked) (change : Change) (bytes : List ℕ) (report : Report) (first last : ℕ) →
     IsLoadedFrom change.files (input_name asked) bytes → first ≡ change.load_faults → change.load_faults_after ≡ last →
     ((report ≡ reports.ReadFault) × Rose first last) ⊎ ReportsOn (task_of asked)
     (λ table. IsJudgedIn (task_of asked) table change.files (judged_name asked) report) bytes report →
-    ComesOfInput asked (reach (task_of asked)) (IsChecked asked change.files) change (reported report)
+    ComesOfInput asked (reach (task_of asked)) (IsChecked asked change.files) change (checked_of asked report)
 check_comes asked change bytes report first last loaded begins ends (inl fault) = inl (record {
   rose = subst (λ (n : ℕ). Rose n change.load_faults_after) begins (subst (Rose first) (sym ends) fault.1);
-  so = ap reported fault.0;
+  so = ap (checked_of asked) fault.0;
 })
 check_comes asked change bytes report first last loaded begins ends (inr of) = inr (of_loaded (task_of asked).source
-    (reach (task_of asked)) (λ refusal. reported report ≡ reported (reports.Refused refusal))
-    (λ table. IsChecked asked change.files table (reported report)) change.files (input_name asked) bytes loaded
+    (reach (task_of asked)) (λ refusal. checked_of asked report ≡ reported (reports.Refused refusal))
+    (λ table. IsChecked asked change.files table (checked_of asked report)) change.files (input_name asked) bytes loaded
     (of_bytes_mapped (task_of asked).source (reach (task_of asked)) (λ refusal. report ≡ reports.Refused refusal)
-    (λ refusal. reported report ≡ reported (reports.Refused refusal))
+    (λ refusal. checked_of asked report ≡ reported (reports.Refused refusal))
     (λ table. IsJudgedIn (task_of asked) table change.files (judged_name asked) report)
-    (λ table. IsChecked asked change.files table (reported report)) (λ refusal told. ap reported told)
-    (λ table found. record { judged = found; no_file = refl }) bytes of))
+    (λ table. IsChecked asked change.files table (checked_of asked report)) (λ refusal told. ap (checked_of asked) told)
+    (λ table found. record { judged = found; most = refl; no_file = refl }) bytes of))

@@ -5,8 +5,8 @@ use Rattle.std.proofs.lemmas.Option.{get_or_from_slice_get}
 use Rattle.tl_base.specs.declared.limits.TheConstants.{MAX_PAGE_WIDTH}
 use Rattle.tl_base.specs.Desk.{Files}
 use Rattle.tl_command.specs.declared.command.Command.{Command}
-use Rattle.tl_command.specs.declared.command.Command.TheVariants.{Lay, Narrow, Tidy}
-use Rattle.tl_command.specs.Ask.{Asked}
+use Rattle.tl_command.specs.declared.command.Command.TheVariants.{Lay, Narrow, Tidy, Demo}
+use Rattle.tl_command.specs.Ask.{Asked, IsAsk}
 use Rattle.tl_command.specs.Command.{IsNumberOf}
 use Rattle.tl_table.specs.declared.cell.Table.{Table}
 use Rattle.tl_read.specs.declared.reading.Reading.{Reading}
@@ -23,13 +23,14 @@ use Rattle.tl_lay.specs.Slimmed.{IsSlimmed}
 use Rattle.tl_lay.specs.Tidied.{IsTidiedAs}
 use Rattle.tl_program.specs.declared.report.Report.TheVariants as reports
 use Rattle.tl_program.specs.Answered.{Answers, Delivers, IsLeftWith, LaysFile, NarrowsFile, TidiesFile}
-use Rattle.tl_program.specs.Asks.{IsAskOf, input_name}
+use Rattle.tl_program.specs.Asks.{input_name}
 use Rattle.tl_program.specs.Change.{Change, Holds, with_all}
-use Rattle.tl_program.specs.Deliveries.{ComesOfInput, Delivery, IsAnswered, delivery_of, files_of, reported, texts_of}
-use Rattle.tl_program.specs.Headline.{Ends, IsCarriedOut}
-use Rattle.tl_program.specs.Messages.{Prints, status_number, status_of}
+use Rattle.tl_program.specs.Deliveries.{ComesOfInput, Delivery, IsAnswered, Prints, delivery_of, files_of, reported, texts_of}
+use Rattle.tl_program.specs.Headline.{ComesOfAsk, Ends, IsCarriedOut}
+use Rattle.tl_program.specs.Messages.{status_number, status_of}
+use Rattle.tl_program.specs.Settled.{Settles}
 use Rattle.tl_program.specs.Tasks.{slim_task, task_of, task_on}
-use Rattle.tl_program.proofs.Asking.{carried_as, task_in_range}
+use Rattle.tl_program.proofs.Asking.{comes_as, settled_names, settled_range, task_in_range}
 use Rattle.tl_program.proofs.Ends.{same_bytes}
 use Rattle.tl_program.proofs.Loading.{none_named}
 use Rattle.tl_program.proofs.NamedFiles.{left_as_it_was, no_file_named, text_there}
@@ -82,7 +83,7 @@ answer_of_bytes source reach Own asked delivery bytes of =
     )
   where
     refused : (refusal : _) → delivery ≡ reported (reports.Refused refusal) → delivery ≡ delivery_of asked (answers.Refused refusal)
-    refused refusal same = same ∙ sym (ap (λ (stores : _). record { report = reports.Refused refusal; stores = stores })
+    refused refusal same = same ∙ sym (ap (λ (stores : _). record { report = reports.Refused refusal; most = None; stores = stores })
         (none_named asked.names))
 
     by_reading : (reading : Reading) → IsOfReading reach (λ refusal. delivery ≡ reported (reports.Refused refusal))
@@ -95,54 +96,78 @@ answer_of_bytes source reach Own asked delivery bytes of =
 
 -- ---- the run
 
-module _ (command : Command) (most : Asked → ℕ) (Own : Asked → Table → Answer → Type 0) (Says : Asked → List ℕ → Answer → Type 0)
+module _ (command : Command) (file : command ≢ Demo) (most : Asked → ℕ) (Own : Asked → Table → Answer → Type 0) (Says : Asked → List ℕ → Answer → Type 0)
     (carried : (asked : Asked) (change : Change) (delivery : Delivery) → IsCarriedOut command asked change delivery →
     ComesOfInput asked (reach (task_on (most asked) asked)) (IsAnswered (Own asked) asked) change delivery)
-    (says : (words : List (List ℕ)) (asked : Asked) → IsAskOf command words asked → (bytes : List ℕ) (answer : Answer) →
-    below.IsAnswered (task_on (most asked) asked) (Own asked) bytes answer → Says asked bytes answer) where
+    (says : (words : List (List ℕ)) (asked settled : Asked) → IsAsk words asked → asked.command ≡ command →
+    (bytes : List ℕ) (answer : Answer) → Settles bytes asked settled →
+    below.IsAnswered (task_on (most settled) settled) (Own settled) bytes answer → Says settled bytes answer) where
   pub answers_of : (words : List (List ℕ)) (change : Change) (status : ℕ) → Ends words change status →
       Answers command Says words change status
-  answers_of words change status ends = λ done asked bytes is shown.
+  answers_of words change status ends = λ done asked bytes is by shown.
       let went = ends.done done.written done.memory in
-      by_input asked bytes is shown done.read went.0 went.2 went.3 went.4
-      (carried asked change went.0 (carried_as words change command asked went.0 is went.1)) where
-        by_input : (asked : Asked) (bytes : List ℕ) → IsAskOf command words asked →
-            (shown : (files : Files) × (change.files ≡ Some files) × (files (input_name asked) ≡ Some bytes)) → status ≢ 7 →
+      by_ask asked bytes is by shown done.read went.0 went.2 went.3 went.4 (comes_as words change asked went.0 is went.1) where
+        by_input : (asked settled : Asked) (bytes : List ℕ) → IsAsk words asked → asked.command ≡ command →
+            Settles bytes asked settled → settled.names ≡ asked.names →
+            (shown : (files : Files) × (change.files ≡ Some files) × (files (input_name settled) ≡ Some bytes)) → status ≢ 7 →
             (delivery : Delivery) → status ≡ status_number (status_of delivery.report) →
-            change.files_after ≡ with_all change.files delivery.stores → Prints change delivery.report →
-            ComesOfInput asked (reach (task_on (most asked) asked)) (IsAnswered (Own asked) asked) change delivery →
-            (answer : Answer) × Says asked bytes answer × Delivers asked change status answer
-        by_input asked bytes is shown read delivery told stores prints (inl unread) =
+            change.files_after ≡ with_all change.files delivery.stores → Prints change delivery →
+            ComesOfInput settled (reach (task_on (most settled) settled)) (IsAnswered (Own settled) settled) change delivery →
+            (answer : Answer) × Says settled bytes answer × Delivers settled change status answer
+        by_input asked settled bytes is by settles names shown read delivery told stores prints (inl unread) =
             absurd (read (told ∙ ap (λ (d : Delivery). status_number (status_of d.report)) unread.so))
-        by_input asked bytes is shown read delivery told stores prints (inr (content, holds, of)) =
-            let found = answer_of_bytes (task_on (most asked) asked).source (reach (task_on (most asked) asked)) (Own asked) asked
-            delivery bytes (subst (IsOfBytes (task_on (most asked) asked).source (reach (task_on (most asked) asked))
-            (λ refusal. delivery ≡ reported (reports.Refused refusal)) (λ table. IsAnswered (Own asked) asked table delivery))
-            (same_bytes change.files shown.0 (input_name asked) content bytes shown.1 shown.2 holds) of) in (
+        by_input asked settled bytes is by settles names shown read delivery told stores prints (inr (content, holds, of)) =
+            let found = answer_of_bytes (task_on (most settled) settled).source (reach (task_on (most settled) settled))
+            (Own settled) settled delivery bytes
+            (subst (IsOfBytes (task_on (most settled) settled).source (reach (task_on (most settled) settled))
+            (λ refusal. delivery ≡ reported (reports.Refused refusal)) (λ table. IsAnswered (Own settled) settled table delivery))
+            (same_bytes change.files shown.0 (input_name settled) content bytes shown.1 shown.2 holds) of) in (
               found.0,
-              says words asked is bytes found.0 found.1,
+              says words asked settled is by bytes found.0 settles found.1,
               record {
-                files = λ place name named. left_with change asked.names (texts_of found.0) is.is.names.apart
+                files = λ place name named. left_with change settled.names (texts_of found.0)
+                    (subst (AllPairs (λ one other. one ≢ other)) (sym names) is.names.apart)
                     (stores ∙ ap (λ (d : Delivery). with_all change.files d.stores) found.2) place name named
                     (get_or (texts_of found.0) place None) refl;
-                prints = subst (λ (d : Delivery). Prints change d.report) found.2 prints;
+                prints = subst (Prints change) found.2 prints;
                 told = told ∙ ap (λ (d : Delivery). status_number (status_of d.report)) found.2;
               },
             )
 
+        by_ask : (asked : Asked) (bytes : List ℕ) → IsAsk words asked → asked.command ≡ command →
+            (shown : (files : Files) × (change.files ≡ Some files) × (files (input_name asked) ≡ Some bytes)) → status ≢ 7 →
+            (delivery : Delivery) → status ≡ status_number (status_of delivery.report) →
+            change.files_after ≡ with_all change.files delivery.stores → Prints change delivery →
+            ComesOfAsk asked change delivery →
+            (settled : Asked) × Settles bytes asked settled × (answer : Answer) × Says settled bytes answer
+            × Delivers settled change status answer
+        by_ask asked bytes is by shown read delivery told stores prints (inl demo) = absurd (file (sym by ∙ demo.0))
+        by_ask asked bytes is by shown read delivery told stores prints (inr (inl unread)) =
+            absurd (read (told ∙ ap (λ (d : Delivery). status_number (status_of d.report)) unread.1.so))
+        by_ask asked bytes is by shown read delivery told stores prints (inr (inr (settled, (content, holds, settles), comes))) =
+            let settles_bytes = subst (λ (bs : List ℕ). Settles bs asked settled)
+            (same_bytes change.files shown.0 (input_name asked) content bytes shown.1 shown.2 holds) settles in
+            let names = settled_names asked settled bytes settles_bytes in
+            let found = by_input asked settled bytes is by settles_bytes names
+            (shown.0, shown.1, subst (λ (ns : List (List ℕ)). shown.0 (get_or ns 0 []) ≡ Some bytes) (sym names) shown.2)
+            read delivery told stores prints
+            (carried settled change delivery (subst (λ (c : Command). IsCarriedOut c settled change delivery) by comes)) in
+            (settled, settles_bytes, found.0, found.1, found.2)
+
 pub lays_file : LaidIsLowest → (words : List (List ℕ)) (change : Change) (status : ℕ) → Ends words change status →
     LaysFile words change status
-lays_file law = answers_of Lay (λ asked. asked.number) (λ asked. IsLaidAs (task_of asked)) _ (λ asked change delivery comes. comes)
-    (λ words asked is bytes answer. law (task_of asked) bytes answer)
+lays_file law = answers_of Lay (λ e. absurd cc) (λ asked. asked.number) (λ asked. IsLaidAs (task_of asked)) _ (λ asked change delivery comes. comes)
+    (λ words asked settled is by bytes answer settles. law (task_of settled) bytes answer)
 
 pub narrows_file : NarrowedIsNarrowest → (words : List (List ℕ)) (change : Change) (status : ℕ) → Ends words change status →
     NarrowsFile words change status
-narrows_file law = answers_of Narrow (λ asked. MAX_PAGE_WIDTH) (λ asked. IsSlimmed (slim_task asked) asked.number) _
-    (λ asked change delivery comes. comes) (λ words asked is bytes answer. law (slim_task asked) asked.number bytes answer)
+narrows_file law = answers_of Narrow (λ e. absurd cc) (λ asked. MAX_PAGE_WIDTH) (λ asked. IsSlimmed (slim_task asked) asked.number) _
+    (λ asked change delivery comes. comes)
+    (λ words asked settled is by bytes answer settles. law (slim_task settled) settled.number bytes answer)
 
 pub tidies_file : TidiedIsTidiest → (words : List (List ℕ)) (change : Change) (status : ℕ) → Ends words change status →
     TidiesFile words change status
-tidies_file law = answers_of Tidy (λ asked. asked.number) (λ asked. IsTidiedAs (task_of asked)) _
-    (λ asked change delivery comes. comes) (λ words asked is bytes answer. law (task_of asked) bytes answer
-    (let of_number = subst (λ (command : Command). IsNumberOf command asked.number) is.by is.is.in_range in
-    task_in_range words asked is.is of_number.least of_number.most))
+tidies_file law = answers_of Tidy (λ e. absurd cc) (λ asked. asked.number) (λ asked. IsTidiedAs (task_of asked)) _
+    (λ asked change delivery comes. comes) (λ words asked settled is by bytes answer settles. law (task_of settled) bytes answer
+    (let of_number = subst (λ (command : Command). IsNumberOf command asked.number) by is.in_range in
+    settled_range asked settled bytes settles (task_in_range words asked is of_number.least of_number.most)))

@@ -24,14 +24,15 @@ use Rattle.tl_program.specs.Change.{Change, Holds, StoresSome, FailsToStore, Doe
 use Rattle.tl_program.specs.Complete.{ShowsFile, SpellsTable}
 use Rattle.tl_program.specs.Headline.{ComesOf, IsCarriedOut, Ends}
 use Rattle.tl_lay.specs.Inputs.{IsOfBytes}
-use Rattle.tl_program.specs.Messages.{status_number, status_of, message_of}
-use Rattle.tl_program.specs.Deliveries.{ComesOfInput, Delivery, reported}
+use Rattle.tl_program.specs.Messages.{status_number, status_of, message_of, message_with}
+use Rattle.tl_program.specs.Deliveries.{ComesOfInput, Delivery, reported, told}
 use Rattle.tl_program.specs.Tasks.{task_on}
 use Rattle.tl_read.specs.Reading.{IsReading}
 use Rattle.tl_program.specs.inner.Printing.{IsPrinted, IsDelivered}
 use Rattle.tl_program.specs.inner.Steps.{EndsUnread}
 use Rattle.tl_lay.proofs.SameBudgets.{same_reach}
-use Rattle.tl_program.proofs.Asking.{carried_as}
+use Rattle.tl_program.specs.Settled.{IsAskFor}
+use Rattle.tl_program.proofs.Asking.{carried_as, carried_for, none_carried, none_fitted}
 use Rattle.tl_lay.proofs.Inputs.{own_of, refusal_of}
 use Rattle.tl_program.proofs.Storing.{some_all}
 
@@ -41,7 +42,7 @@ module _ (words : List (List ℕ)) (change : Change) where
   -- a status that is neither of two
   ends_done : (status : Status) (delivery : Delivery) → ComesOf words change delivery → status ≡ status_of delivery.report →
       change.files_after ≡ with_all change.files delivery.stores →
-      change.said_after ≡ longer change.said (message_of delivery.report) →
+      change.said_after ≡ longer change.said (told delivery) →
       (status_number status ≡ 8 → ⊥) → (status_number status ≡ 9 → ⊥) → Ends words change (status_number status)
   ends_done status delivery becomes is stored printed fault memory = record {
     done = λ a b. (delivery, becomes, ap status_number is, stored, printed);
@@ -52,7 +53,7 @@ module _ (words : List (List ℕ)) (change : Change) where
   pub ends_fault : (delivery : Delivery) → ComesOf words change delivery → Rose change.write_faults change.write_faults_after →
       ((FailsToStore change.files change.files_after delivery.stores × (change.said_after ≡ change.said))
       ⊎ ((change.files_after ≡ with_all change.files delivery.stores) ×
-      SaysPrefix change.said change.said_after (message_of delivery.report))) →
+      SaysPrefix change.said change.said_after (told delivery))) →
       Ends words change 8
   ends_fault delivery becomes rose stands = record {
     done = λ a b. absurd (a refl);
@@ -128,14 +129,14 @@ module _ (words : List (List ℕ)) (change : Change) where
       subst (λ (s : Status). Ends words change (status_number s)) (sym is.0) (ends_memory is.1 (inr (delivery, becomes, is.2)))
 
   -- a message alone ends it
-  pub printed_ends : (result : Status) (report : Report) → let delivery : Delivery = record { report = report; stores = [] } in
+  pub printed_ends : (result : Status) (report : Report) → let delivery : Delivery = reported report in
       ComesOf words change delivery → change.files_after ≡ change.files →
       IsPrinted (status_of report) result change (message_of report) →
       Ends words change (status_number result)
-  printed_ends result report becomes stay printed = delivered_ends result (record { report = report; stores = [] }) becomes
+  printed_ends result report becomes stay printed = delivered_ends result (reported report) becomes
       (delivered printed) where
         delivered : IsPrinted (status_of report) result change (message_of report) →
-            IsDelivered result change (record { report = report; stores = [] })
+            IsDelivered result change (reported report)
         delivered (inl is) = inl (is.0, stay, is.1)
         delivered (inr (inl is)) = inr (inl (is.0, is.1, inr (stay, is.2)))
         delivered (inr (inr is)) = inr (inr (is.0, is.1, some_all change.files change.files_after [] stay))
@@ -165,6 +166,14 @@ same_bytes files held name one bytes are has holds =
     let is_held : held name ≡ Some one = subst (λ (f : Option Files). Holds f name one) are holds in
     Some-same (sym is_held ∙ has)
 
+-- the message where no number is found of words
+pub plain_told : (words : List (List ℕ)) (command : Command) (asked : Asked) (delivery : Delivery) (change : Change) →
+    IsAskOf command words asked → IsCarriedOut command asked change delivery →
+    longer change.said (told delivery) ≡ longer change.said (message_of delivery.report)
+plain_told words command asked delivery change is carried =
+    ap (λ (most : Option ℕ). longer change.said (message_with most delivery.report))
+    (none_carried asked (none_fitted words asked is.is) delivery command change carried)
+
 -- what a run which did not fail delivered
 pub went : (words : List (List ℕ)) (change : Change) (status : ℕ) (command : Command) (asked : Asked) → Ends words change status →
     IsAskOf command words asked → DoesNotFail change →
@@ -176,7 +185,29 @@ went words change status command asked ends is quiet = elim (eqb_tells status 9)
     | inl eight ↦ absurd (quiet.write (ends.write_fault eight.1).0)
     | inr another ↦
         let done = ends.done another.1 other.1 in
-        inl (done.0, carried_as words change command asked done.0 is done.1, done.2, done.4)
+        let carried = carried_as words change command asked done.0 is done.1 in
+        inl (done.0, carried, done.2, done.4 ∙ plain_told words command asked done.0 change is carried)
+  ]
+]
+
+-- and what it delivered of what is asked of the bytes of the file
+pub went_for : (words : List (List ℕ)) (change : Change) (status : ℕ) (command : Command) (asked : Asked) (bytes : List ℕ) →
+    Ends words change status → IsAskFor command words bytes asked → ShowsFile change (input_name asked) bytes →
+    DoesNotFail change →
+    ((delivery : Delivery) × IsCarriedOut command asked change delivery × (status ≡ status_number (status_of delivery.report)))
+    ⊎ (status ≡ 9)
+went_for words change status command asked bytes ends is shown quiet = elim (eqb_tells status 9) [
+  | inl nine ↦ inr nine.1
+  | inr other ↦ elim (eqb_tells status 8) [
+    | inl eight ↦ absurd (quiet.write (ends.write_fault eight.1).0)
+    | inr another ↦
+        let done = ends.done another.1 other.1 in
+        inl (
+          done.0,
+          carried_for words change command asked bytes done.0 is
+              (λ one holds. same_bytes change.files shown.0 (input_name asked) one bytes shown.1 shown.2 holds) done.1,
+          done.2,
+        )
   ]
 ]
 

@@ -1,6 +1,7 @@
 -- The definitions on small cases.
 use Rattle.std.proofs.Common.{◌≡◌, ℕ, List, [], ◌∷◌, ◌++◌, codes, decimal, Some, None, false, true, refl}
-use Rattle.tl_base.specs.declared.breaking.Breaking.TheVariants.{Words}
+use Rattle.tl_base.specs.declared.breaking.Breaking.TheVariants.{Words, Wider}
+use Rattle.tl_command.specs.declared.options.BreakRule.TheVariants as rules
 use Rattle.tl_read.specs.declared.refusal.RecordFault.TheVariants as records
 use Rattle.tl_read.specs.declared.source.Source.TheVariants.{Csv, Html}
 use Rattle.tl_read.specs.declared.refusal.Fault.TheVariants as faults
@@ -13,9 +14,10 @@ use Rattle.tl_command.specs.declared.command.Command.{Command}
 use Rattle.tl_command.specs.declared.command.Command.TheVariants.{Lay, Narrow, Check}
 use Rattle.tl_command.specs.declared.options.Options.{Options}
 use Rattle.tl_command.specs.Ask.{Asked}
-use Rattle.tl_program.specs.Asks.{input_name, page_name, certificate_name, judged_name}
+use Rattle.tl_program.specs.Asks.{input_name, page_name, certificate_name, judged_name, fitted_in}
 use Rattle.tl_program.specs.Change.{Stored}
-use Rattle.tl_program.specs.Messages.{status_number, status_of, message_of}
+use Rattle.tl_program.specs.Messages.{status_number, status_of, message_of, message_with}
+use Rattle.tl_program.specs.Settled.{widest_page, with_rule}
 use Rattle.tl_program.specs.Deliveries.{delivery_of}
 use Rattle.tl_program.specs.Reports.{report_of}
 use Rattle.tl_program.specs.Tasks.{task_of}
@@ -133,3 +135,29 @@ html_source = refl
 uneven : message_of (reports.Refused (refusals.BadRecord records.Uneven 1)) ≡
     codes "bad input: uneven record at " ++ (decimal 1 ++ 10 ∷ [])
 uneven = refl
+
+-- ---- which words may break
+
+-- the message of a page says above which number of columns, where that was found, and no other message does
+broken_page : message_with (Some 9) (reports.Lowest 2 6) ≡
+    codes "lowest height " ++ (decimal 2 ++ (codes " width " ++ (decimal 6 ++ (codes " break " ++ (decimal 9 ++ 10 ∷ [])))))
+broken_page = refl
+
+no_break_told : message_with (Some 0) (reports.Narrow 2 1) ≡
+    codes "narrow least " ++ (decimal 2 ++ (codes " width " ++ (decimal 1 ++ 10 ∷ [])))
+no_break_told = refl
+
+-- nothing is found for an ask without `fit`, and of one with it the number that is found is told
+found_none : fitted_in lay_three ≡ None
+found_none = refl
+
+found_nine : fitted_in (with_rule (rules.Fitted 9) lay_three) ≡ Some 9
+found_nine = refl
+
+-- the words are broken above that number
+nine_source : (task_of (with_rule (rules.Fitted 9) lay_three)).source ≡ Html (Wider 9)
+nine_source = refl
+
+-- `narrow` is asked for pages of any width
+any_width : widest_page (with_names Narrow (codes "t" ∷ codes "p" ∷ [])) ≡ 500
+any_width = refl

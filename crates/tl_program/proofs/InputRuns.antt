@@ -21,6 +21,7 @@ use Rattle.tl_lay.specs.Inputs.{IsOfReading}
 use Rattle.tl_program.specs.Messages.{status_number, status_of, message_of}
 use Rattle.tl_program.specs.Tasks.{task_of}
 use Rattle.tl_program.proofs.Asking.{carried_as}
+use Rattle.tl_program.proofs.Ends.{plain_told}
 
 -- the status is none of a file that is refused or cannot be read
 pub record IsOwnStatus (status : ℕ) : Type 0 where
@@ -101,11 +102,12 @@ pub went_run : (words : List (List ℕ)) (change : Change) (status : ℕ) (comma
     WentRun asked reach Own change status
 went_run words change status command asked reach Own ends is out no_fault no_memory carried =
     let done = ends.done no_fault no_memory in
+    let comes = carried_as words change command asked done.0 is done.1 in
     record {
       delivery = done.0;
       run = input_run asked reach Own change done.0 (own_status status (delivery_status done.0) done.2 out)
-          (carried done.0 (carried_as words change command asked done.0 is done.1));
+          (carried done.0 comes);
       told = done.2;
       stores = done.3;
-      prints = done.4;
+      prints = done.4 ∙ plain_told words command asked done.0 change is comes;
     }

@@ -8,6 +8,7 @@ pub mod Contents
 pub mod Delivering
 pub mod Ends
 mod Examples
+pub mod FirstFitted
 pub mod InputRuns
 pub mod LaidRuns
 pub mod Loading

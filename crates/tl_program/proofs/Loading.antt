@@ -100,7 +100,7 @@ answered_bytes source reach Own asked bytes answer = of_bytes_mapped source reac
     (λ refusal. answer ≡ answers.Refused refusal) (λ refusal. delivery_of asked answer ≡ reported (reports.Refused refusal))
     (λ table. Own table answer) (λ table. IsAnswered Own asked table (delivery_of asked answer))
     (λ refusal same. ap (delivery_of asked) same
-    ∙ ap (λ (stores : List Stored). record { report = reports.Refused refusal; stores = stores }) (none_named asked.names))
+    ∙ ap (λ (stores : List Stored). record { report = reports.Refused refusal; most = None; stores = stores }) (none_named asked.names))
     (λ table is. record { answer = answer; is = is; so = refl }) bytes
 
 -- what a call returned for the bytes of a file ends the program

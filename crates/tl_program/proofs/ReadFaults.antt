@@ -33,6 +33,7 @@ use Rattle.tl_program.specs.Complete.{SpellsTable}
 use Rattle.tl_program.specs.Deliveries.{Delivery, delivery_of}
 use Rattle.tl_program.specs.Messages.{status_number, status_of}
 use Rattle.tl_program.specs.ReadFaults.{FailsToCheck, FailsToJudge, FailsToLoad}
+use Rattle.tl_program.specs.Settled.{SettlesOn}
 use Rattle.tl_program.specs.Reports.{report_of, verdict_report}
 use Rattle.tl_program.specs.Tasks.{task_of}
 use Rattle.tl_program.specs.inner.Printing.{IsDelivered, IsPrinted}
@@ -228,18 +229,20 @@ unread_fails shown before after task bytes name (Ok report) fails told = λ faul
     record { table = found.0; spells = found.1; fails = fails }
 
 -- and the file that is read holds such bytes
-pub check_fails : {Desk : Type 0} (shown : Ghosts Desk) (before start end after : Desk) (asked : Asked) (task : Task)
-    (bytes : List ℕ) → task ≡ task_of asked → IsLoadedFrom (shown.files before) (input_name asked) bytes →
+pub check_fails : {Desk : Type 0} (shown : Ghosts Desk) (before start end after : Desk) (asked settled : Asked) (task : Task)
+    (bytes : List ℕ) → task ≡ task_of settled → SettlesOn (shown.files before) asked settled → IsLoadedFrom (shown.files before) (input_name asked) bytes →
     shown.files start ≡ shown.files before → shown.said start ≡ shown.said before →
     shown.load_faults start ≡ shown.load_faults before → shown.load_faults after ≡ shown.load_faults end →
     FailsToJudge shown start end task bytes (judged_name asked) → FailsToCheck shown before after asked
-check_fails shown before start end after asked task bytes same loaded files said faults last failed =
+check_fails shown before start end after asked settled task bytes same settles loaded files said faults last failed =
     let content = content_of MAX_FILE_BYTES (shown.files before) (input_name asked) bytes loaded.short loaded.read in (
+      settled,
+      settles,
       content.0,
       content.1,
       record {
         table = failed.table;
-        spells = content_spells (task_of asked) content.0 bytes failed.table content.2
+        spells = content_spells (task_of settled) content.0 bytes failed.table content.2
             (subst (λ (t : Task). SpellsTable t bytes failed.table) same failed.spells);
         fails = fails_within shown before start end after (judged_name asked) files said faults last failed.fails;
       },

@@ -22,7 +22,7 @@ use Rattle.tl_program.specs.Headline.{Ends, IsCarriedOut}
 use Rattle.tl_program.specs.Messages.{status_number, status_of}
 use Rattle.tl_program.specs.Reports.{report_of}
 use Rattle.tl_program.specs.Tasks.{slim_task, task_of, task_on}
-use Rattle.tl_program.proofs.Ends.{own_input, refused_input, went}
+use Rattle.tl_program.proofs.Ends.{own_input, refused_input, went_for}
 
 -- the status of an answer
 abbrev answer_status : Answer → ℕ
@@ -61,7 +61,7 @@ tidy_status task table answer (inr early) status same = laid_status task table e
 
 pub complete : (words : List (List ℕ)) (change : Change) (status : ℕ) → Ends words change status → IsComplete words change status
 complete words change status ends = λ asked bytes table is shown quiet spells.
-    elim (went words change status Lay asked ends is quiet) [
+    elim (went_for words change status Lay asked bytes ends is shown quiet) [
       | inl so ↦
           let own = own_input asked.number asked (IsAnswered (IsLaidAs (task_of asked)) asked) change so.0 so.1 bytes shown quiet
           table spells in
@@ -72,7 +72,7 @@ complete words change status ends = λ asked bytes table is shown quiet spells.
 
 pub finds : (words : List (List ℕ)) (change : Change) (status : ℕ) → Ends words change status → FindsWidth words change status
 finds words change status ends = λ asked bytes table is shown quiet spells.
-    elim (went words change status Narrow asked ends is quiet) [
+    elim (went_for words change status Narrow asked bytes ends is shown quiet) [
       | inl so ↦
           let own = own_input MAX_PAGE_WIDTH asked (IsAnswered (IsSlimmed (slim_task asked) asked.number) asked) change so.0 so.1
           bytes shown quiet table spells in
@@ -85,7 +85,7 @@ finds words change status ends = λ asked bytes table is shown quiet spells.
 
 pub finds_tidy : (words : List (List ℕ)) (change : Change) (status : ℕ) → Ends words change status → FindsTidy words change status
 finds_tidy words change status ends = λ asked bytes table is shown quiet spells.
-    elim (went words change status Tidy asked ends is quiet) [
+    elim (went_for words change status Tidy asked bytes ends is shown quiet) [
       | inl so ↦
           let own = own_input asked.number asked (IsAnswered (IsTidiedAs (task_of asked)) asked) change so.0 so.1 bytes shown quiet
           table spells in
@@ -102,7 +102,7 @@ pub refused_by : (command : Command) (most : Asked → ℕ) (Own : Asked → Tab
     ComesOfInput asked (reach (task_on (most asked) asked)) (Own asked) change delivery) →
     (words : List (List ℕ)) (change : Change) (status : ℕ) → Ends words change status → IsRefusedBy command words change status
 refused_by command most Own carried words change status ends = λ asked bytes refusal is shown quiet read.
-    elim (went words change status command asked ends is quiet) [
+    elim (went_for words change status command asked bytes ends is shown quiet) [
       | inl so ↦ inl (so.2 ∙ ap (λ (d : Delivery). status_number (status_of d.report))
           (refused_input (most asked) asked (Own asked) change so.0 (carried asked change so.0 so.1) bytes shown quiet refusal read))
       | inr nine ↦ inr nine

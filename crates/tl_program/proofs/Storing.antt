@@ -7,8 +7,8 @@ use Rattle.tl_base.specs.Desk.{Files, Rose, StoresPrefix, SaysPrefix, longer, st
 use Rattle.tl_program.specs.declared.output.File.{File}
 use Rattle.tl_program.specs.declared.status.Status.{Status}
 use Rattle.tl_program.specs.Change.{Change, Stored, StoresSome, FailsToStore, with_all, as_stored}
-use Rattle.tl_program.specs.Messages.{status_of, message_of}
-use Rattle.tl_program.specs.Deliveries.{Delivery}
+use Rattle.tl_program.specs.Messages.{status_of}
+use Rattle.tl_program.specs.Deliveries.{Delivery, told}
 use Rattle.tl_program.specs.inner.Printing.{IsPrinted, IsStored, IsDelivered}
 
 -- ---- files stored one after the other
@@ -132,20 +132,20 @@ stopped result change delivery said (inr is) = inr (inr (is.0, said, is.1))
 pub printed_last : (result : Status) (change third : Change) (delivery : Delivery) →
     change.files_after ≡ with_all change.files delivery.stores →
     third.write_faults ≡ change.write_faults → third.write_faults_after ≡ change.write_faults_after → third.said ≡ change.said →
-    third.said_after ≡ change.said_after → IsPrinted (status_of delivery.report) result third (message_of delivery.report) →
+    third.said_after ≡ change.said_after → IsPrinted (status_of delivery.report) result third (told delivery) →
     IsDelivered result change delivery
 printed_last result change third delivery stored few count said said_after (inl is) = inl (
   is.0,
   stored,
-  sym said_after ∙ is.1 ∙ ap (λ (s : Option (List ℕ)). longer s (message_of delivery.report)) said,
+  sym said_after ∙ is.1 ∙ ap (λ (s : Option (List ℕ)). longer s (told delivery)) said,
 )
 printed_last result change third delivery stored few count said said_after (inr (inl is)) = inr (inl (
   is.0,
   subst (λ (n : ℕ). Rose n change.write_faults_after) few (subst (Rose third.write_faults) count is.1),
   inr (
     stored,
-    subst (λ (s : Option (List ℕ)). SaysPrefix s change.said_after (message_of delivery.report)) said
-        (subst (λ (s : Option (List ℕ)). SaysPrefix third.said s (message_of delivery.report)) said_after is.2),
+    subst (λ (s : Option (List ℕ)). SaysPrefix s change.said_after (told delivery)) said
+        (subst (λ (s : Option (List ℕ)). SaysPrefix third.said s (told delivery)) said_after is.2),
   ),
 ))
 printed_last result change third delivery stored few count said said_after (inr (inr is)) = inr (inr (

@@ -25,7 +25,7 @@ use Rattle.tl_program.specs.Change.{Change, Holds, with_all}
 use Rattle.tl_program.specs.Complete.{ShowsFile}
 use Rattle.tl_program.specs.Deliveries.{Delivery, IsAnswered, texts_of}
 use Rattle.tl_program.specs.Headline.{Ends}
-use Rattle.tl_program.specs.Messages.{Prints, message_of, status_number, status_of}
+use Rattle.tl_program.specs.Messages.{message_of, status_number, status_of}
 use Rattle.tl_program.specs.Reports.{report_of}
 use Rattle.tl_program.specs.Tasks.{source_of, style_of, task_of}
 use Rattle.tl_program.proofs.Asking.{names_asked}
@@ -47,7 +47,7 @@ record StoresChosen (asked : Asked) (change : Change) (table : Table) : Type 0 w
   answer : Answer
   chosen : HasChosenPage asked.options.html (style_of asked) table asked.number answer
   stored : Holds change.files_after (page_name asked) chosen.page
-  prints : Prints change (report_of answer)
+  prints : change.said_after ≡ longer change.said (message_of (report_of answer))
 
 module _ (law : MetIsSlimmest) (words : List (List ℕ)) (change : Change) (status : ℕ) (asked : Asked) (bytes : List ℕ)
     (table : Table) (flat : HasNoNested table) (ends : Ends words change status) (is : IsAskOf Tidy words asked)

@@ -3,7 +3,7 @@
 use Rattle.std.specs.Prelude.{◌≡◌, ◌⊎◌, ℕ, List, Option, None, Some}
 use Rattle.tl_base.specs.Desk.{Files, longer}
 use Rattle.tl_command.specs.declared.command.Command.TheVariants.{Lay, Tidy, Check}
-use Rattle.tl_command.specs.declared.options.Search.{Search}
+use Rattle.tl_base.specs.declared.search.Search.{Search}
 use Rattle.tl_command.specs.Ask.{Asked}
 use Rattle.tl_table.specs.declared.cell.Table.{Table}
 use Rattle.tl_read.specs.declared.reading.Reading.TheVariants as readings

@@ -7,9 +7,10 @@ use Rattle.tl_lay.specs.declared.task.Task.{Task}
 use Rattle.tl_lay.specs.declared.verdict.Verdict.{Verdict}
 use Rattle.tl_lay.specs.Checks.{IsJudged}
 use Rattle.tl_program.specs.declared.report.Report.{Report}
-use Rattle.tl_program.specs.Asks.{judged_name}
+use Rattle.tl_program.specs.Asks.{fitted_in, judged_name}
 use Rattle.tl_program.specs.Change.{Holds}
 use Rattle.tl_program.specs.Deliveries.{Delivery}
+use Rattle.tl_program.specs.Messages.{of_page}
 use Rattle.tl_program.specs.Reports.{verdict_report}
 use Rattle.tl_program.specs.Tasks.{task_of}
 
@@ -26,4 +27,5 @@ IsJudgedIn task table files name report = (text : List ℕ) × Holds files name 
 -- the certificate is judged for the table, on the files as they are, and nothing is stored
 pub record IsChecked (asked : Asked) (files : Option Files) (table : Table) (delivery : Delivery) : Type 0 where
   pub judged : IsJudgedIn (task_of asked) table files (judged_name asked) delivery.report
+  pub most : delivery.most ≡ of_page (fitted_in asked) delivery.report
   pub no_file : delivery.stores ≡ []

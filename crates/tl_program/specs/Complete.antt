@@ -21,6 +21,7 @@ use Rattle.tl_program.specs.Change.{Change, DoesNotFail, Holds}
 use Rattle.tl_lay.specs.Checks.{IsValidIn}
 use Rattle.tl_program.specs.Headline.{Ends}
 use Rattle.tl_program.specs.Messages.{status_number, refusal_status}
+use Rattle.tl_program.specs.Settled.{IsAskFor}
 use Rattle.tl_program.specs.Tasks.{slim_task, task_of}
 use Rattle.tl_read.specs.Reading.{IsReading}
 
@@ -35,7 +36,7 @@ pub record SpellsTable (task : Task) (bytes : List ℕ) (table : Table) : Type 0
 
 -- a command that lays a table out gives 0, 3 or 4 on a file that spells one within all limits
 abbrev pub IsCompleteBy : Command → List (List ℕ) → Change → ℕ → Type 0
-IsCompleteBy command words change status = (asked : Asked) (bytes : List ℕ) (table : Table) → IsAskOf command words asked →
+IsCompleteBy command words change status = (asked : Asked) (bytes : List ℕ) (table : Table) → IsAskFor command words bytes asked →
     ShowsFile change (input_name asked) bytes → DoesNotFail change → SpellsTable (task_of asked) bytes table →
     (status ≡ 0) ⊎ ((status ≡ 3) ⊎ ((status ≡ 4) ⊎ (status ≡ 9)))
 
@@ -45,7 +46,7 @@ IsComplete = IsCompleteBy Lay
 
 -- a command on a file that is refused gives the status of the refusal
 abbrev pub IsRefusedBy : Command → List (List ℕ) → Change → ℕ → Type 0
-IsRefusedBy command words change status = (asked : Asked) (bytes : List ℕ) (refusal : Refusal) → IsAskOf command words asked →
+IsRefusedBy command words change status = (asked : Asked) (bytes : List ℕ) (refusal : Refusal) → IsAskFor command words bytes asked →
     ShowsFile change (input_name asked) bytes → DoesNotFail change →
     IsReading (task_of asked).source bytes (readings.Refused refusal) →
     (status ≡ status_number (refusal_status refusal)) ⊎ (status ≡ 9)
@@ -63,7 +64,7 @@ claim_status (claims.Narrow least) = statuses.Narrow
 -- the text of a certificate that is valid for the table that a file spells is accepted, by its claim
 abbrev pub IsAcceptedSo : List (List ℕ) → Change → ℕ → Type 0
 IsAcceptedSo words change status = (asked : Asked) (bytes text : List ℕ) (table : Table) (certificate : Certificate) →
-    IsAskOf Check words asked → ShowsFile change (input_name asked) bytes → ShowsFile change (judged_name asked) text →
+    IsAskFor Check words bytes asked → ShowsFile change (input_name asked) bytes → ShowsFile change (judged_name asked) text →
     DoesNotFail change → SpellsTable (task_of asked) bytes table → IsTextOf text certificate →
     IsValidIn (task_of asked) table certificate →
     (status ≡ status_number (claim_status certificate.claim)) ⊎ (status ≡ 9)
@@ -71,7 +72,7 @@ IsAcceptedSo words change status = (asked : Asked) (bytes text : List ℕ) (tabl
 -- a text that is that of no certificate valid for the table is rejected
 abbrev pub IsRejectedSo : List (List ℕ) → Change → ℕ → Type 0
 IsRejectedSo words change status = (asked : Asked) (bytes text : List ℕ) (table : Table) →
-    IsAskOf Check words asked → ShowsFile change (input_name asked) bytes → ShowsFile change (judged_name asked) text →
+    IsAskFor Check words bytes asked → ShowsFile change (input_name asked) bytes → ShowsFile change (judged_name asked) text →
     DoesNotFail change → SpellsTable (task_of asked) bytes table →
     ((certificate : Certificate) → IsTextOf text certificate → IsValidIn (task_of asked) table certificate → ⊥) →
     (status ≡ 10) ⊎ (status ≡ 9)
@@ -99,7 +100,7 @@ IsSlimStatus status = (status ≡ 0) ⊎ ((status ≡ 3) ⊎ (status ≡ 12))
 
 -- a file that spells a table within all limits, of which any page may be searched, gives 0, 3 or 12
 abbrev pub FindsWidth : List (List ℕ) → Change → ℕ → Type 0
-FindsWidth words change status = (asked : Asked) (bytes : List ℕ) (table : Table) → IsAskOf Narrow words asked →
+FindsWidth words change status = (asked : Asked) (bytes : List ℕ) (table : Table) → IsAskFor Narrow words bytes asked →
     ShowsFile change (input_name asked) bytes → DoesNotFail change → SpellsTable (slim_task asked) bytes table →
     (status ≡ 0) ⊎ ((status ≡ 3) ⊎ ((status ≡ 12) ⊎ (status ≡ 9)))
 

@@ -1,6 +1,6 @@
 -- What becomes of a command: what is reported, and what is stored for it, in order.
 use Rattle.std.specs.Prelude.{◌≡◌, ◌⊎◌, ℕ, List, [], ◌∷◌, Option, Some, None}
-use Rattle.tl_base.specs.Desk.{Files, Rose}
+use Rattle.tl_base.specs.Desk.{Files, Rose, longer}
 use Rattle.tl_command.specs.Ask.{Asked}
 use Rattle.tl_table.specs.declared.cell.Table.{Table}
 use Rattle.tl_read.specs.declared.refusal.Refusal.{Refusal}
@@ -11,15 +11,26 @@ use Rattle.tl_lay.specs.declared.answer.Evidence.{Evidence}
 use Rattle.tl_lay.specs.Inputs.{IsOfBytes}
 use Rattle.tl_program.specs.declared.report.Report.{Report}
 use Rattle.tl_program.specs.declared.report.Report.TheVariants as reports
-use Rattle.tl_program.specs.Asks.{input_name}
+use Rattle.tl_program.specs.Asks.{fitted_in, input_name}
 use Rattle.tl_program.specs.Change.{Change, Holds, Stored}
+use Rattle.tl_program.specs.Messages.{message_with, of_page}
 use Rattle.tl_program.specs.Reports.{report_of}
 use Rattle.tl_program.specs.Tasks.{task_of}
 
--- what is reported, and the files that are stored, in order
+-- what is reported, the number of columns above which words may break where that was found for a page, and the files that are
+-- stored, in order
 pub record Delivery : Type 0 where
   pub report : Report
+  pub most : Option ℕ
   pub stores : List Stored
+
+-- the message of a delivery
+abbrev pub told : Delivery → List ℕ
+told delivery = message_with delivery.most delivery.report
+
+-- it is printed
+abbrev pub Prints : Change → Delivery → Type 0
+Prints change delivery = change.said_after ≡ longer change.said (told delivery)
 
 -- ---- of an answer
 
@@ -49,13 +60,17 @@ files_of (name ∷ names) (Some text ∷ texts) = record { name = name; bytes = 
 
 -- the answer is reported, and its texts are stored under the names
 abbrev pub delivery_of : Asked → Answer → Delivery
-delivery_of asked answer = record { report = report_of answer; stores = files_of asked.names (texts_of answer) }
+delivery_of asked answer = record {
+  report = report_of answer;
+  most = of_page (fitted_in asked) (report_of answer);
+  stores = files_of asked.names (texts_of answer);
+}
 
 -- ---- of a file
 
 -- what is reported where nothing is stored
 abbrev pub reported : Report → Delivery
-reported report = record { report = report; stores = [] }
+reported report = record { report = report; most = None; stores = [] }
 
 -- a file could not be read
 pub record IsUnread (change : Change) (delivery : Delivery) : Type 0 where

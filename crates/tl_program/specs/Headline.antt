@@ -15,8 +15,9 @@ use Rattle.tl_lay.specs.Tidied.{IsTidiedAs}
 use Rattle.tl_program.specs.declared.report.Report.TheVariants as reports
 use Rattle.tl_program.specs.Change.{Change, StoresSome, FailsToStore, with_all}
 use Rattle.tl_program.specs.Checks.{IsChecked}
-use Rattle.tl_program.specs.Messages.{status_number, status_of, message_of}
-use Rattle.tl_program.specs.Deliveries.{Delivery, reported, ComesOfInput, IsAnswered}
+use Rattle.tl_program.specs.Messages.{status_number, status_of}
+use Rattle.tl_program.specs.Deliveries.{Delivery, reported, told, ComesOfInput, IsAnswered, IsUnread}
+use Rattle.tl_program.specs.Settled.{SettlesOn}
 use Rattle.tl_program.specs.Tasks.{slim_task, task_of}
 
 -- What comes of the command that is asked for. A layout, a search for the narrowest page, or for one that is as low as any and
@@ -34,10 +35,17 @@ IsCarriedOut Check asked change delivery = ComesOfInput asked (reach (task_of as
 IsCarriedOut Demo asked change delivery = (summary : Summary) × IsDemonstrated asked.number summary
     × (delivery ≡ reported (reports.Summary summary))
 
--- what comes of the arguments: they are invalid, or the command that they ask for is carried out
+-- what comes of what is asked for: a demonstration; or the file of a command could not be read; or what is asked of its bytes is
+-- carried out
+abbrev pub ComesOfAsk : Asked → Change → Delivery → Type 0
+ComesOfAsk asked change delivery = ((asked.command ≡ Demo) × IsCarriedOut Demo asked change delivery)
+    ⊎ (((asked.command ≢ Demo) × IsUnread change delivery)
+    ⊎ ((settled : Asked) × SettlesOn change.files asked settled × IsCarriedOut asked.command settled change delivery))
+
+-- what comes of the arguments: they are invalid, or they ask for something
 abbrev pub ComesOf : List (List ℕ) → Change → Delivery → Type 0
 ComesOf words change delivery = (AskForNothing words × (delivery ≡ reported reports.Usage))
-    ⊎ ((asked : Asked) × IsAsk words asked × IsCarriedOut asked.command asked change delivery)
+    ⊎ ((asked : Asked) × IsAsk words asked × ComesOfAsk asked change delivery)
 
 -- how the program ends
 pub record Ends (words : List (List ℕ)) (change : Change) (status : ℕ) : Type 0 where
@@ -45,13 +53,13 @@ pub record Ends (words : List (List ℕ)) (change : Change) (status : ℕ) : Typ
   -- is printed
   pub done : status ≢ 8 → status ≢ 9 → (delivery : Delivery) × ComesOf words change delivery
       × (status ≡ status_number (status_of delivery.report)) × (change.files_after ≡ with_all change.files delivery.stores)
-      × (change.said_after ≡ longer change.said (message_of delivery.report))
+      × (change.said_after ≡ longer change.said (told delivery))
   -- 8: a file could not be stored, and nothing is printed; or all is stored, and the message could not be printed
   pub write_fault : status ≡ 8 → Rose change.write_faults change.write_faults_after
       × (delivery : Delivery) × ComesOf words change delivery
       × ((FailsToStore change.files change.files_after delivery.stores × (change.said_after ≡ change.said))
       ⊎ ((change.files_after ≡ with_all change.files delivery.stores)
-      × SaysPrefix change.said change.said_after (message_of delivery.report)))
+      × SaysPrefix change.said change.said_after (told delivery)))
   -- 9: out of memory. What was stored before stands, and nothing is printed
   pub memory : status ≡ 9 → (change.said_after ≡ change.said) × ((change.files_after ≡ change.files)
       ⊎ ((delivery : Delivery) × ComesOf words change delivery

@@ -11,4 +11,5 @@ pub mod Messages
 pub mod ReadFaults
 pub mod Reports
 pub mod Tasks
+pub mod Settled
 pub mod inner

@@ -1,6 +1,5 @@
 -- The exit status and the message of each report. A message ends with a line feed.
-use Rattle.std.specs.Prelude.{◌≡◌, ℕ, ◌==◌, if◌then◌else◌, List, [], ◌∷◌, ◌++◌, codes, decimal, Option, None, Some}
-use Rattle.tl_base.specs.Desk.{longer}
+use Rattle.std.specs.Prelude.{ℕ, ◌==◌, if◌then◌else◌, List, [], ◌∷◌, ◌++◌, codes, decimal, Option, None, Some}
 use Rattle.tl_read.specs.declared.refusal.Fault.{Fault}
 use Rattle.tl_read.specs.declared.refusal.Fault.TheVariants as faults
 use Rattle.tl_read.specs.declared.refusal.Limit.{Limit}
@@ -16,7 +15,6 @@ use Rattle.tl_program.specs.declared.report.Report.TheVariants as reports
 use Rattle.tl_lay.specs.declared.summary.Summary.{Summary}
 use Rattle.tl_program.specs.declared.status.Status.{Status}
 use Rattle.tl_program.specs.declared.status.Status.TheVariants as statuses
-use Rattle.tl_program.specs.Change.{Change}
 
 -- the number of a status
 abbrev pub status_number : Status → ℕ
@@ -125,31 +123,54 @@ abbrev pub width_word : Option ℕ → List ℕ
 width_word None = codes "none"
 width_word (Some width) = decimal width
 
--- the message of a report
-abbrev pub message_of : Report → List ℕ
-message_of (reports.Lowest height width) =
-    codes "lowest height " ++ (decimal height ++ (codes " width " ++ (decimal width ++ 10 ∷ [])))
-message_of (reports.Bounded height lower width) =
-    codes "bounded height " ++ (decimal height ++ (codes " lower " ++ (decimal lower ++ (codes " width "
-    ++ (decimal width ++ 10 ∷ [])))))
-message_of (reports.Narrow least width) =
-    codes "narrow least " ++ (decimal least ++ (codes " width " ++ (decimal width ++ 10 ∷ [])))
-message_of (reports.Slimmest width height) =
-    codes "slimmest width " ++ (decimal width ++ (codes " height " ++ (decimal height ++ 10 ∷ [])))
-message_of (reports.Between width least) =
-    codes "bounded width " ++ (width_word width ++ (codes " least " ++ (decimal least ++ 10 ∷ [])))
-message_of (reports.TooTall height) = codes "too tall height " ++ (decimal height ++ 10 ∷ [])
-message_of (reports.Tidy height width) =
-    codes "tidy height " ++ (decimal height ++ (codes " width " ++ (decimal width ++ 10 ∷ [])))
-message_of (reports.Wider width least) =
-    codes "untidy width " ++ (decimal width ++ (codes " least " ++ (decimal least ++ 10 ∷ [])))
-message_of reports.Unchosen = codes "untidy choice\n"
-message_of (reports.Refused refusal) = refusal_text refusal
-message_of (reports.Rejected rejection) = codes "rejected: " ++ (rejection_text rejection ++ 10 ∷ [])
-message_of (reports.Summary summary) = summary_text summary
-message_of reports.Usage = codes "usage\n"
-message_of reports.ReadFault = codes "read fault\n"
+-- the end of a message that speaks of a page, with the number of columns above which its words may break, where that was
+-- found
+abbrev pub page_end : Option ℕ → List ℕ
+page_end None = 10 ∷ []
+page_end (Some most) = codes " break " ++ (decimal most ++ 10 ∷ [])
 
--- the message of the report is printed
-abbrev pub Prints : Change → Report → Type 0
-Prints change report = change.said_after ≡ longer change.said (message_of report)
+-- the message of a report, with the number of columns above which words may break, where that was found
+abbrev pub message_with : Option ℕ → Report → List ℕ
+message_with most (reports.Lowest height width) =
+    codes "lowest height " ++ (decimal height ++ (codes " width " ++ (decimal width ++ page_end most)))
+message_with most (reports.Bounded height lower width) =
+    codes "bounded height " ++ (decimal height ++ (codes " lower " ++ (decimal lower ++ (codes " width "
+    ++ (decimal width ++ page_end most)))))
+message_with most (reports.Narrow least width) =
+    codes "narrow least " ++ (decimal least ++ (codes " width " ++ (decimal width ++ 10 ∷ [])))
+message_with most (reports.Slimmest width height) =
+    codes "slimmest width " ++ (decimal width ++ (codes " height " ++ (decimal height ++ page_end most)))
+message_with most (reports.Between width least) =
+    codes "bounded width " ++ (width_word width ++ (codes " least " ++ (decimal least ++ page_end most)))
+message_with most (reports.TooTall height) = codes "too tall height " ++ (decimal height ++ 10 ∷ [])
+message_with most (reports.Tidy height width) =
+    codes "tidy height " ++ (decimal height ++ (codes " width " ++ (decimal width ++ page_end most)))
+message_with most (reports.Wider width least) =
+    codes "untidy width " ++ (decimal width ++ (codes " least " ++ (decimal least ++ page_end most)))
+message_with most reports.Unchosen = codes "untidy choice" ++ page_end most
+message_with most (reports.Refused refusal) = refusal_text refusal
+message_with most (reports.Rejected rejection) = codes "rejected: " ++ (rejection_text rejection ++ 10 ∷ [])
+message_with most (reports.Summary summary) = summary_text summary
+message_with most reports.Usage = codes "usage\n"
+message_with most reports.ReadFault = codes "read fault\n"
+
+-- the message of a report for which nothing is found of words
+abbrev pub message_of : Report → List ℕ
+message_of report = message_with None report
+
+-- the number where the report speaks of a page
+abbrev pub of_page : Option ℕ → Report → Option ℕ
+of_page most (reports.Lowest height width) = most
+of_page most (reports.Bounded height lower width) = most
+of_page most (reports.Narrow least width) = None
+of_page most (reports.Slimmest width height) = most
+of_page most (reports.Between width least) = most
+of_page most (reports.TooTall height) = None
+of_page most (reports.Tidy height width) = most
+of_page most (reports.Wider width least) = most
+of_page most reports.Unchosen = most
+of_page most (reports.Refused refusal) = None
+of_page most (reports.Rejected rejection) = None
+of_page most (reports.Summary summary) = None
+of_page most reports.Usage = None
+of_page most reports.ReadFault = None

@@ -9,6 +9,7 @@ use Rattle.tl_lay.specs.declared.task.Task.{Task}
 use Rattle.tl_program.specs.Asks.{input_name, judged_name}
 use Rattle.tl_program.specs.Change.{Holds}
 use Rattle.tl_program.specs.Complete.{SpellsTable}
+use Rattle.tl_program.specs.Settled.{SettlesOn}
 use Rattle.tl_program.specs.Tasks.{task_of}
 
 -- from one desk to another a load of the file of this name failed: it met a desk on which all was as on the first, and no fault
@@ -29,10 +30,11 @@ pub record FailsToJudge {Desk : Type 0} (shown : Ghosts Desk) (before after : De
     pub spells : SpellsTable task bytes table
     pub fails : FailsToLoad shown before after name
 
--- the file that is read holds such bytes, where the desk shows its files
+-- the file that is read holds such bytes, by what is asked of them, where the desk shows its files
 abbrev pub FailsToCheck : {Desk : Type 0} → Ghosts Desk → Desk → Desk → Asked → Type 0
-FailsToCheck shown before after asked = (bytes : List ℕ) × Holds (shown.files before) (input_name asked) bytes
-    × FailsToJudge shown before after (task_of asked) bytes (judged_name asked)
+FailsToCheck shown before after asked = (settled : Asked) × SettlesOn (shown.files before) asked settled
+    × (bytes : List ℕ) × Holds (shown.files before) (input_name asked) bytes
+    × FailsToJudge shown before after (task_of settled) bytes (judged_name asked)
 
 -- a file that is asked for could not be read: the first, or the certificate of a check
 abbrev pub FailsToRead : {Desk : Type 0} → Ghosts Desk → Desk → Desk → Asked → Type 0

@@ -3,11 +3,13 @@
 use Rattle.std.specs.Prelude.{ℕ, Bool, true, false, List, [], Option, Some, None, is_some}
 use Rattle.tl_base.specs.declared.breaking.Breaking.{Breaking}
 use Rattle.tl_base.specs.declared.limits.TheConstants.{MAX_PAGE_WIDTH}
-use Rattle.tl_base.specs.declared.breaking.Breaking.TheVariants.{Words}
+use Rattle.tl_base.specs.declared.breaking.Breaking.TheVariants.{Words, Wider}
 use Rattle.tl_base.specs.declared.style.Style.{Style}
 use Rattle.tl_base.specs.declared.style.Style.TheVariants as styles
-use Rattle.tl_command.specs.declared.options.Search.TheVariants as searches
+use Rattle.tl_base.specs.declared.search.Search.TheVariants as searches
 use Rattle.tl_command.specs.Ask.{Asked}
+use Rattle.tl_command.specs.declared.options.BreakRule.{BreakRule}
+use Rattle.tl_command.specs.declared.options.BreakRule.TheVariants as rules
 use Rattle.tl_read.specs.declared.source.Source.{Source}
 use Rattle.tl_read.specs.declared.source.Source.TheVariants.{Html, Csv}
 use Rattle.tl_lay.specs.declared.task.Task.{Task}
@@ -22,9 +24,16 @@ given_or default (Some given) = given
 abbrev pub style_of : Asked → Style
 style_of asked = given_or styles.Plain asked.options.style
 
--- how paragraphs are broken into lines
+-- how paragraphs are broken into lines where these words may break; they are whole before it is found which may
+abbrev pub breaking_by : BreakRule → Breaking
+breaking_by rules.Words = Words
+breaking_by rules.Any = Wider 0
+breaking_by (rules.Wider most) = Wider most
+breaking_by rules.Fit = Words
+breaking_by (rules.Fitted most) = Wider most
+
 abbrev pub breaking_of : Asked → Breaking
-breaking_of asked = given_or Words asked.options.breaking
+breaking_of asked = breaking_by (given_or rules.Words asked.options.breaking)
 
 -- what kind of file it is: a CSV file, with what is said of its head and its columns, or else HTML
 abbrev pub source_by : Bool → Bool → List ℕ → Breaking → Source

@@ -9,6 +9,7 @@ ghost use Rattle.tl_program.specs.inner.Steps.{DeliversResult, MayDeliver};
 
 use crate::output::{File, deliver};
 use crate::report::Report;
+use crate::settling::fitted_in;
 use crate::status::Status;
 use std::alloc::{AllocError, Global};
 use tl_base::{Desk, List};
@@ -42,7 +43,7 @@ fn deliver_answer<D: Desk>(alloc: Global, ask: &Ask<'_>, desk: &mut D, answer: A
         return Status::Memory;
     };
     match files_of(alloc, ask.names, texts.as_slice()) {
-        Ok(files) => deliver(alloc, desk, report, files.as_slice()),
+        Ok(files) => deliver(alloc, desk, report, fitted_in(ask), files.as_slice()),
         Err(_) => Status::Memory,
     }
 }

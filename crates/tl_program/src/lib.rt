@@ -12,6 +12,7 @@ mod names;
 mod output;
 mod report;
 mod running;
+mod settling;
 mod status;
 mod task;
 
@@ -19,5 +20,6 @@ pub use answers::texts_of;
 pub use messages::message_text;
 pub use report::Report;
 pub use running::run;
+pub use settling::{fitted_in, settled};
 pub use status::Status;
 pub use task::{task_of, task_on};

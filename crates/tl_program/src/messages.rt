@@ -1,9 +1,8 @@
 //! The messages that are printed. Each ends with a line feed.
 
-ghost use Rattle.std.specs.Prelude.{◌≡◌, IfOk, string_bytes};
+ghost use Rattle.std.specs.Prelude.{◌≡◌, ◌++◌, IfOk, codes, decimal, string_bytes};
 ghost use Rattle.tl_program.specs.Messages.{fault_words, record_words, limit_word, refusal_text, rejection_text};
-ghost use Rattle.tl_program.specs.Messages.{summary_text, message_of};
-ghost use Rattle.tl_program.specs.declared.report.Report.TheVariants as reports;
+ghost use Rattle.tl_program.specs.Messages.{summary_text, message_with, page_end, width_word};
 
 use crate::report::Report;
 use std::alloc::{AllocError, Global};
@@ -110,44 +109,61 @@ fn summary_text(alloc: Global, summary: Summary) -> Result<String, AllocError>
     format!(in alloc; "cells {cells} count {count} height {height} lower {lower} cuts {cuts}\n")
 }
 
-/// The message that names a width and a least width.
-fn between_text(alloc: Global, width: Option<u32>, least: u32) -> Result<String, AllocError>
-    ensures { IfOk result (λ text. string_bytes text ≡ message_of (reports.Between width least)) }
+/// The end of a message that speaks of a page, with the number of columns above which its words may break.
+fn page_end(alloc: Global, most: Option<u32>) -> Result<String, AllocError>
+    ensures { IfOk result (λ text. string_bytes text ≡ page_end most) }
 {
-    match width {
-        Some(width) => format!(in alloc; "bounded width {width} least {least}\n"),
-        None => format!(in alloc; "bounded width none least {least}\n"),
+    match most {
+        Some(most) => format!(in alloc; " break {most}\n"),
+        None => format!(in alloc; "\n"),
     }
 }
 
-/// The message of a report.
-pub fn message_text(alloc: Global, report: Report) -> Result<String, AllocError>
-    ensures { IfOk result (λ text. string_bytes text ≡ message_of report) }
+/// The message that names a width and a least width.
+fn between_text(
+    alloc: Global,
+    width: Option<u32>,
+    least: u32,
+    end: &str,
+) -> Result<String, AllocError>
+    ensures { IfOk result (λ text. string_bytes text
+        ≡ codes "bounded width " ++ (width_word width ++ (codes " least " ++ (decimal least ++ end.now)))) }
 {
+    match width {
+        Some(width) => format!(in alloc; "bounded width {width} least {least}{end}"),
+        None => format!(in alloc; "bounded width none least {least}{end}"),
+    }
+}
+
+/// The message of a report, with the number of columns above which words may break, where that was found.
+pub fn message_text(alloc: Global, report: Report, most: Option<u32>) -> Result<String, AllocError>
+    ensures { IfOk result (λ text. string_bytes text ≡ message_with most report) }
+{
+    let end = page_end(alloc, most)?;
     match report {
         Report::Lowest { height, width } => {
-            format!(in alloc; "lowest height {height} width {width}\n")
+            format!(in alloc; "lowest height {height} width {width}{end}")
         }
         Report::Bounded {
             height,
             lower,
             width,
-        } => format!(in alloc; "bounded height {height} lower {lower} width {width}\n"),
+        } => format!(in alloc; "bounded height {height} lower {lower} width {width}{end}"),
         Report::Narrow { least, width } => {
             format!(in alloc; "narrow least {least} width {width}\n")
         }
         Report::Slimmest { width, height } => {
-            format!(in alloc; "slimmest width {width} height {height}\n")
+            format!(in alloc; "slimmest width {width} height {height}{end}")
         }
-        Report::Between { width, least } => between_text(alloc, width, least),
+        Report::Between { width, least } => between_text(alloc, width, least, end.as_str()),
         Report::TooTall { height } => format!(in alloc; "too tall height {height}\n"),
         Report::Tidy { height, width } => {
-            format!(in alloc; "tidy height {height} width {width}\n")
+            format!(in alloc; "tidy height {height} width {width}{end}")
         }
         Report::Wider { width, least } => {
-            format!(in alloc; "untidy width {width} least {least}\n")
+            format!(in alloc; "untidy width {width} least {least}{end}")
         }
-        Report::Unchosen => format!(in alloc; "untidy choice\n"),
+        Report::Unchosen => format!(in alloc; "untidy choice{end}"),
         Report::Refused(refusal) => refusal_text(alloc, refusal),
         Report::Rejected(rejection) => {
             let reason = rejection_text(alloc, rejection)?;

@@ -2,6 +2,7 @@
 
 ghost use Rattle.std.specs.Prelude.{◌≡◌, ◌≤◌, ◌∷◌, [], map};
 ghost use Rattle.tl_program.specs.Change.{between, as_stored};
+ghost use Rattle.tl_program.specs.Messages.{of_page};
 ghost use Rattle.tl_program.specs.inner.Printing.{IsPrinted, IsStored, IsDelivered};
 
 use crate::messages::message_text;
@@ -17,13 +18,20 @@ pub struct File<'a> {
     pub bytes: &'a [u8],
 }
 
-/// Stores the files in their order, and prints what is reported.
-pub fn deliver<D: Desk>(alloc: Global, desk: &mut D, report: Report, files: &[File<'_>]) -> Status
-    ensures delivered { IsDelivered result
-        (between D.Desk desk.old desk.new) (record { report = report; stores = map as_stored files.now }) }
+/// Stores the files in their order, and prints what is reported, with the number of columns above which words may
+/// break where that was found and a page is spoken of.
+pub fn deliver<D: Desk>(
+    alloc: Global,
+    desk: &mut D,
+    report: Report,
+    most: Option<u32>,
+    files: &[File<'_>],
+) -> Status
+    ensures delivered { IsDelivered result (between D.Desk desk.old desk.new)
+        (record { report = report; most = of_page most report; stores = map as_stored files.now }) }
     ensures loads_stay { D.load_faults desk.new ≡ D.load_faults desk.old }
 {
-    let message = match message_text(alloc, report) {
+    let message = match message_text(alloc, report, report.of_page(most)) {
         Ok(message) => message,
         Err(_) => return Status::Memory,
     };

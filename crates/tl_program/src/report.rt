@@ -1,7 +1,7 @@
 //! What is reported, with its exit status.
 
 ghost use Rattle.std.specs.Prelude.{◌≡◌};
-ghost use Rattle.tl_program.specs.Messages.{refusal_status, status_of};
+ghost use Rattle.tl_program.specs.Messages.{of_page, refusal_status, status_of};
 ghost use Rattle.tl_program.specs.Reports.{report_of, verdict_report};
 
 use crate::status::Status;
@@ -91,6 +91,28 @@ impl Report {
             Verdict::Narrow { least, width } => Report::Narrow { least, width },
             Verdict::Rejected(rejection) => Report::Rejected(rejection),
             Verdict::Refused(refusal) => Report::Refused(refusal),
+        }
+    }
+
+    /// The number of columns above which words may break, where it speaks of a page.
+    pub fn of_page(self, most: Option<u32>) -> Option<u32>
+        ensures { result ≡ of_page most self }
+    {
+        match self {
+            Report::Lowest { .. }
+            | Report::Bounded { .. }
+            | Report::Slimmest { .. }
+            | Report::Between { .. }
+            | Report::Tidy { .. }
+            | Report::Wider { .. }
+            | Report::Unchosen => most,
+            Report::Narrow { .. }
+            | Report::TooTall { .. }
+            | Report::Refused(_)
+            | Report::Rejected(_)
+            | Report::Summary(_)
+            | Report::Usage
+            | Report::ReadFault => None,
         }
     }
 

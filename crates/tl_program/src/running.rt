@@ -27,6 +27,7 @@ use crate::input::load;
 use crate::names::input_name;
 use crate::output::{deliver, print};
 use crate::report::Report;
+use crate::settling::{fitted_in, settled};
 use crate::status::Status;
 use crate::task::{task_of, task_on};
 use std::alloc::Global;
@@ -115,11 +116,15 @@ fn lay_file<R: Threads + Sync, D: Desk, G: Gate>(
         (between D.Desk desk.old desk.new) (status_number result) }
     ensures read_fault { result ≡ statuses.ReadFault → FailsToRead D.Desk desk.old desk.new (asked_by ask.now) }
 {
-    let task = task_of(ask);
     match load_input(alloc, ask, desk) {
         Ok(bytes) => {
-            let answer = lay(rt, alloc, &task, bytes.as_slice(), gate);
-            deliver_result(alloc, ask, desk, answer)
+            let bytes = bytes.as_slice();
+            let Ok(ask) = settled(alloc, ask, bytes) else {
+                return Status::Memory;
+            };
+            let task = task_of(&ask);
+            let answer = lay(rt, alloc, &task, bytes, gate);
+            deliver_result(alloc, &ask, desk, answer)
         }
         Err(status) => status,
     }
@@ -141,11 +146,15 @@ fn narrow_file<R: Threads + Sync, D: Desk, G: Gate>(
         (between D.Desk desk.old desk.new) (status_number result) }
     ensures read_fault { result ≡ statuses.ReadFault → FailsToRead D.Desk desk.old desk.new (asked_by ask.now) }
 {
-    let task = task_on(ask, MAX_PAGE_WIDTH);
     match load_input(alloc, ask, desk) {
         Ok(bytes) => {
-            let answer = narrow(rt, alloc, &task, ask.number, bytes.as_slice(), gate);
-            deliver_result(alloc, ask, desk, answer)
+            let bytes = bytes.as_slice();
+            let Ok(ask) = settled(alloc, ask, bytes) else {
+                return Status::Memory;
+            };
+            let task = task_on(&ask, MAX_PAGE_WIDTH);
+            let answer = narrow(rt, alloc, &task, ask.number, bytes, gate);
+            deliver_result(alloc, &ask, desk, answer)
         }
         Err(status) => status,
     }
@@ -166,11 +175,15 @@ fn tidy_file<R: Threads + Sync, D: Desk, G: Gate>(
         (between D.Desk desk.old desk.new) (status_number result) }
     ensures read_fault { result ≡ statuses.ReadFault → FailsToRead D.Desk desk.old desk.new (asked_by ask.now) }
 {
-    let task = task_of(ask);
     match load_input(alloc, ask, desk) {
         Ok(bytes) => {
-            let answer = tidy(rt, alloc, &task, bytes.as_slice(), gate);
-            deliver_result(alloc, ask, desk, answer)
+            let bytes = bytes.as_slice();
+            let Ok(ask) = settled(alloc, ask, bytes) else {
+                return Status::Memory;
+            };
+            let task = task_of(&ask);
+            let answer = tidy(rt, alloc, &task, bytes, gate);
+            deliver_result(alloc, &ask, desk, answer)
         }
         Err(status) => status,
     }
@@ -192,10 +205,16 @@ fn check_file<R: Threads + Sync, D: Desk, G: Gate>(
     ensures read_fault { result ≡ statuses.ReadFault → FailsToRead D.Desk desk.old desk.new (asked_by ask.now) }
 {
     match load_input(alloc, ask, desk) {
-        Ok(bytes) => match checked(rt, alloc, ask, bytes.as_slice(), desk, gate) {
-            Ok(report) => deliver(alloc, desk, report, &[]),
-            Err(_) => Status::Memory,
-        },
+        Ok(bytes) => {
+            let bytes = bytes.as_slice();
+            let Ok(ask) = settled(alloc, ask, bytes) else {
+                return Status::Memory;
+            };
+            match checked(rt, alloc, &ask, bytes, desk, gate) {
+                Ok(report) => deliver(alloc, desk, report, fitted_in(&ask), &[]),
+                Err(_) => Status::Memory,
+            }
+        }
         Err(status) => status,
     }
 }
@@ -216,7 +235,7 @@ fn load_input<D: Desk>(alloc: Global, ask: &Ask<'_>, desk: &mut D) -> Result<Lis
 {
     match load(desk, input_name(ask), MAX_FILE_BYTES as u32) {
         Ok(Some(bytes)) => Ok(bytes),
-        Ok(None) => Err(deliver(alloc, desk, Report::ReadFault, &[])),
+        Ok(None) => Err(deliver(alloc, desk, Report::ReadFault, None, &[])),
         Err(_) => Err(Status::Memory),
     }
 }
@@ -235,7 +254,7 @@ fn demonstrate_table<R: Threads + Sync, D: Desk, G: Gate>(
     ensures read_fault { result ≡ statuses.ReadFault → FailsToRead D.Desk desk.old desk.new (asked_by ask.now) }
 {
     match demonstrate(rt, alloc, ask.number, gate) {
-        Ok(summary) => deliver(alloc, desk, Report::Summary(summary), &[]),
+        Ok(summary) => deliver(alloc, desk, Report::Summary(summary), None, &[]),
         Err(_) => Status::Memory,
     }
 }

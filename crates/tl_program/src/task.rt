@@ -2,22 +2,34 @@
 
 ghost use Rattle.std.specs.Prelude.{◌≡◌, []};
 ghost use Rattle.tl_command.specs.Ask.{asked_by};
-ghost use Rattle.tl_base.specs.declared.breaking.Breaking.TheVariants.{Words};
-ghost use Rattle.tl_program.specs.Tasks.{given_or, source_by, task_of, task_on};
+ghost use Rattle.tl_command.specs.declared.options.BreakRule.TheVariants as rules;
+ghost use Rattle.tl_program.specs.Tasks.{breaking_by, given_or, source_by, task_of, task_on};
 
 use crate::names::certificate_name;
-use tl_base::{Breaking, Style};
-use tl_command::{Ask, Options, Search};
+use tl_base::{Breaking, Search, Style};
+use tl_command::{Ask, BreakRule, Options};
 use tl_floors::Floors;
 use tl_lay::Task;
 use tl_read::Source;
 
+/// How paragraphs are broken into lines where these words may break; they are whole before it is found which may.
+fn breaking_by(rule: BreakRule) -> Breaking
+    ensures { result ≡ breaking_by rule }
+{
+    match rule {
+        BreakRule::Words => Breaking::Words,
+        BreakRule::Any => Breaking::Wider(0),
+        BreakRule::Wider(most) | BreakRule::Fitted(most) => Breaking::Wider(most),
+        BreakRule::Fit => Breaking::Words,
+    }
+}
+
 /// What kind of file the table is read from.
 fn source_of(options: &Options) -> Source
     ensures { result ≡ source_by options.now.csv options.now.head (given_or [] options.now.least)
-        (given_or Words options.now.breaking) }
+        (breaking_by (given_or rules.Words options.now.breaking)) }
 {
-    let breaking = options.breaking.unwrap_or(Breaking::Words);
+    let breaking = breaking_by(options.breaking.unwrap_or(BreakRule::Words));
     if options.csv {
         Source::Csv {
             head: options.head,

@@ -1,5 +1,6 @@
 //! Runs command lines over files in memory: each status with its files and its message.
 
+mod breaking;
 mod certificates;
 mod checks;
 mod csv;

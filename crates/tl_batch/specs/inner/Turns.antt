@@ -11,7 +11,7 @@ use Rattle.tl_request.specs.Requests.{AreRequests, HasNoRequest, IsNext, Request
 use Rattle.tl_batch.specs.declared.ending.Ending.{Ending}
 use Rattle.tl_batch.specs.declared.ending.Ending.TheVariants as endings
 use Rattle.tl_batch.specs.Exchanged.{all_bytes}
-use Rattle.tl_batch.specs.Replies.{AnswersCommand, IsReplyTo, memory_reply, usage_reply}
+use Rattle.tl_batch.specs.Replies.{AnswersAsked, IsReplyTo, memory_reply, usage_reply}
 
 -- both files are held, and the bytes answer what is asked of them
 pub record AnswersFiles (asked : Asked) (arrival : Arrival) (bytes : List ℕ) : Type 0 where
@@ -19,7 +19,7 @@ pub record AnswersFiles (asked : Asked) (arrival : Arrival) (bytes : List ℕ) :
   pub file_held : option_map (λ it. it.items) arrival.file ≡ Some file
   pub text : List ℕ
   pub text_held : option_map (λ it. it.items) arrival.text ≡ Some text
-  pub answers : AnswersCommand asked.command asked file text bytes
+  pub answers : AnswersAsked asked file text bytes
 
 -- the bytes answer whatever the words of an arrival ask for
 abbrev pub AnswersArrival : Arrival → List ℕ → Type 0

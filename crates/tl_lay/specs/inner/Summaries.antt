@@ -11,7 +11,7 @@ use Rattle.tl_read.specs.declared.source.Source.TheVariants.{Html}
 use Rattle.tl_problem.specs.Problem.{ProblemModel}
 use Rattle.tl_problem.specs.Spans.{count_of}
 use Rattle.tl_lay.specs.declared.limits.TheConstants.{DEMO_BUDGET}
-use Rattle.tl_command.specs.declared.options.Search.TheVariants.{Best}
+use Rattle.tl_base.specs.declared.search.Search.TheVariants.{Best}
 use Rattle.tl_lay.specs.declared.task.Task.{Task}
 
 -- what is asked of the table of a demonstration

@@ -4,8 +4,8 @@ use Rattle.tl_base.specs.Desk.{longer, SaysPrefix, Rose}
 use Rattle.tl_program.specs.declared.status.Status.{Status}
 use Rattle.tl_program.specs.declared.status.Status.TheVariants.{WriteFault, Memory}
 use Rattle.tl_program.specs.Change.{Change, Stored, StoresSome, FailsToStore, with_all}
-use Rattle.tl_program.specs.Messages.{status_of, message_of}
-use Rattle.tl_program.specs.Deliveries.{Delivery}
+use Rattle.tl_program.specs.Messages.{status_of}
+use Rattle.tl_program.specs.Deliveries.{Delivery, told}
 
 -- the message of this status is printed; or a prefix of it, and there is a fault; or nothing, where memory ran out
 abbrev pub IsPrinted : Status → Status → Change → List ℕ → Type 0
@@ -28,9 +28,9 @@ IsStored (Some status) change stores =
 abbrev pub IsDelivered : Status → Change → Delivery → Type 0
 IsDelivered result change delivery =
     ((result ≡ status_of delivery.report) × (change.files_after ≡ with_all change.files delivery.stores)
-    × (change.said_after ≡ longer change.said (message_of delivery.report)))
+    × (change.said_after ≡ longer change.said (told delivery)))
     ⊎ (((result ≡ WriteFault) × Rose change.write_faults change.write_faults_after
     × ((FailsToStore change.files change.files_after delivery.stores × (change.said_after ≡ change.said))
     ⊎ ((change.files_after ≡ with_all change.files delivery.stores)
-    × SaysPrefix change.said change.said_after (message_of delivery.report))))
+    × SaysPrefix change.said change.said_after (told delivery))))
     ⊎ ((result ≡ Memory) × (change.said_after ≡ change.said) × StoresSome change.files change.files_after delivery.stores))

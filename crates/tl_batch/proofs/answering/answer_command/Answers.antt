@@ -1,42 +1,37 @@
 -- Each command has a number within its limits, and is answered by its own call.
-use Rattle.std.proofs.Common.{subst, sym}
+use Rattle.std.proofs.Common.{arith, subst, sym}
 use Rattle.std.specs.Prelude.{IfOk}
 use Rattle.tl_command.specs.declared.command.Command.{Command}
 use Rattle.tl_command.specs.Ask.{asked_by}
 use Rattle.tl_command.specs.Command.{IsNumberOf}
-use Rattle.tl_program.proofs.Asking.{slim_in_range, task_in_range}
+use Rattle.tl_base.specs.declared.limits.TheConstants.{MAX_PAGE_WIDTH}
 use Rattle.tl_batch.specs.Replies.{AnswersCommand}
 use Rattle.tl_batch.proofs.answering.answer_command.Goals as goal
 
 pub answer_lay-requires-clause-range : goal.answer_lay-requires-clause-range
 answer_lay-requires-clause-range g c = λ lifetimes outlives.
     let asked = asked_by c.args.ask.now in
-    let is = c.requires.asks.1 in
-    let of_number = subst (λ (command : Command). IsNumberOf command asked.number) c.in-Lay.is is.in_range in
-    task_in_range c.requires.asks.0 asked is of_number.least of_number.most
+    let of_number = subst (λ (command : Command). IsNumberOf command asked.number) c.in-Lay.is c.requires.number in
+    c.requires.range asked.number of_number.least of_number.most
 
 pub answer_narrow-requires-clause-range : goal.answer_narrow-requires-clause-range
-answer_narrow-requires-clause-range g c = λ lifetimes outlives.
-    slim_in_range c.requires.asks.0 (asked_by c.args.ask.now) c.requires.asks.1
+answer_narrow-requires-clause-range g c = λ lifetimes outlives. c.requires.range MAX_PAGE_WIDTH (omega arith) (omega arith)
 
 pub answer_narrow-requires-clause-lines : goal.answer_narrow-requires-clause-lines
 answer_narrow-requires-clause-lines g c = λ lifetimes outlives.
-    let asked = asked_by c.args.ask.now in
-    (subst (λ (command : Command). IsNumberOf command asked.number) c.in-Narrow.is c.requires.asks.1.in_range).most
+    (subst (λ (command : Command). IsNumberOf command c.args.ask.now.number) c.in-Narrow.is c.requires.number).most
 
 pub answer_tidy-requires-clause-range : goal.answer_tidy-requires-clause-range
 answer_tidy-requires-clause-range g c = λ lifetimes outlives.
     let asked = asked_by c.args.ask.now in
-    let is = c.requires.asks.1 in
-    let of_number = subst (λ (command : Command). IsNumberOf command asked.number) c.in-Tidy.is is.in_range in
-    task_in_range c.requires.asks.0 asked is of_number.least of_number.most
+    let of_number = subst (λ (command : Command). IsNumberOf command asked.number) c.in-Tidy.is c.requires.number in
+    c.requires.range asked.number of_number.least of_number.most
 
 pub answer_check-requires-clause-range : goal.answer_check-requires-clause-range
 answer_check-requires-clause-range g c = λ lifetimes outlives.
     let asked = asked_by c.args.ask.now in
-    let is = c.requires.asks.1 in
-    let of_number = subst (λ (command : Command). IsNumberOf command asked.number) c.in-Check.is is.in_range in
-    task_in_range c.requires.asks.0 asked is of_number.least of_number.most
+    let of_number = subst (λ (command : Command). IsNumberOf command asked.number) c.in-Check.is c.requires.number in
+    c.requires.range asked.number of_number.least of_number.most
 
 pub returns-in-Lay : goal.returns-in-Lay
 returns-in-Lay g c = subst (λ (command : Command). IfOk c.answer_lay.result (λ bytes.

@@ -13,7 +13,7 @@ returns g c =
     let asked = asked_by c.args.ask.now in
     let file = c.args.file.now in
     let answer = c.in_ok-answer.answer in
-    IfOk-weaker c.tell.result (λ bytes. bytes.items ≡ answer_bytes answer) (λ bytes. TellsTidied asked file bytes.items)
+    IfOk-weaker c.tell.result (λ bytes. bytes.items ≡ answer_bytes asked answer) (λ bytes. TellsTidied asked file bytes.items)
     (λ bytes same. (
       answer,
       (

@@ -9,7 +9,7 @@ use Rattle.tl_demo.specs.declared.laws.TheConstants.{DEMO_WIDTH}
 use Rattle.tl_table.specs.Least.{IsLeastWidth}
 use Rattle.tl_nested.specs.Searched.{AreSectionsOf}
 use Rattle.tl_lay.specs.declared.limits.TheConstants.{DEMO_BUDGET}
-use Rattle.tl_command.specs.declared.options.Search.TheVariants.{Best}
+use Rattle.tl_base.specs.declared.search.Search.TheVariants.{Best}
 use Rattle.tl_lay.specs.declared.task.Task.{Task}
 use Rattle.tl_lay.specs.Answers.{IsOutcomeOf}
 use Rattle.tl_narrow.specs.Certified.{certificate_of}

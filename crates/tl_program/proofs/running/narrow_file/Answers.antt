@@ -1,34 +1,48 @@
 -- What the call answers for the bytes of the file is delivered.
-use Rattle.std.proofs.Common.{List, ℕ, subst}
+use Rattle.std.proofs.Common.{List, ℕ, subst, sym}
 use Rattle.std.specs.Prelude.{IfOk}
 use Rattle.tl_base.specs.declared.limits.TheConstants.{MAX_PAGE_WIDTH}
 use Rattle.tl_command.specs.declared.command.Command.TheVariants.{Narrow}
 use Rattle.tl_command.specs.Ask.{asked_by}
 use Rattle.tl_lay.specs.declared.task.Task.{Task}
 use Rattle.tl_lay.specs.Slimmed.{IsNarrowed, IsSlimmed}
+use Rattle.tl_lay.specs.Inputs.{IsTaskInRange}
 use Rattle.tl_program.specs.Change.{between}
 use Rattle.tl_program.specs.Tasks.{slim_task}
 use Rattle.tl_program.proofs.Asking.{comes_of}
-use Rattle.tl_program.proofs.Loading.{follows_load, result_ends}
+use Rattle.tl_program.specs.Asks.{input_name}
+use Rattle.tl_program.specs.Settled.{Settles}
+use Rattle.tl_program.proofs.FirstFitted.{loaded_settled, settles_loaded}
+use Rattle.tl_program.proofs.Loading.{IsLoadedFrom, follows_load, result_ends}
 use Rattle.tl_program.proofs.ReadFaults.{result_no_fault}
 use Rattle.tl_program.proofs.running.narrow_file.Goals as goal
 
-pub returns-in-Ok-clause-ends : goal.returns-in-Ok-clause-ends
-returns-in-Ok-clause-ends g c = λ words is.
+pub narrow-answer-requires-clause-range : goal.narrow-answer-requires-clause-range
+narrow-answer-requires-clause-range g c = λ lifetimes outlives.
+    subst IsTaskInRange (sym c.task_on-task.ensures) (c.in-Ok-settled.ensures.range MAX_PAGE_WIDTH c.requires.range)
+
+pub returns-in-Ok-settled-clause-ends : goal.returns-in-Ok-settled-clause-ends
+returns-in-Ok-settled-clause-ends g c = λ words is.
     let asked = asked_by c.args.ask.now in
+    let settled = asked_by c.in-Ok-settled.ask in
+    let bytes = c.in-Ok.bytes in
     let change = between g.D.Desk c.args.desk.now c.deliver_result.new.desk in
     let second = between g.D.Desk c.load_input.new.desk c.deliver_result.new.desk in
-    result_ends words change second c.deliver_result.result MAX_PAGE_WIDTH asked (IsSlimmed (slim_task asked) asked.number) c.in-Ok.bytes
+    let loaded : IsLoadedFrom change.files (input_name asked) bytes =
+    record { short = c.in-Ok.ensures.short; read = c.in-Ok.ensures.read } in
+    let settles = subst (λ (bs : List ℕ). Settles bs asked settled) c.as_slice-bytes.ensures c.in-Ok-settled.ensures.settles in
+    result_ends words change second c.deliver_result.result MAX_PAGE_WIDTH settled (IsSlimmed (slim_task settled) settled.number) bytes
     c.narrow-answer.result
     (follows_load g.D.Desk c.args.desk.now c.load_input.new.desk c.deliver_result.new.desk c.in-Ok.ensures.files_stay
     c.in-Ok.ensures.said_stays c.in-Ok.ensures.writes_stay)
-    (record { short = c.in-Ok.ensures.short; read = c.in-Ok.ensures.read })
-    (λ delivery. comes_of words change Narrow asked delivery c.requires.command is)
-    (subst (λ (task : Task). IfOk c.narrow-answer.result (IsNarrowed task c.args.ask.now.number c.in-Ok.bytes)) c.task_on-task.ensures
-    (subst (λ (bytes : List ℕ). IfOk c.narrow-answer.result (IsNarrowed c.task_on-task.result c.args.ask.now.number bytes)) c.as_slice.ensures
+    (loaded_settled change.files asked settled bytes settles loaded)
+    (λ delivery. comes_of words change Narrow asked settled delivery c.requires.command is
+    (settles_loaded change.files asked settled bytes loaded settles))
+    (subst (λ (task : Task). IfOk c.narrow-answer.result (IsNarrowed task settled.number bytes)) c.task_on-task.ensures
+    (subst (λ (bs : List ℕ). IfOk c.narrow-answer.result (IsNarrowed c.task_on-task.result settled.number bs)) c.as_slice-bytes.ensures
     c.narrow-answer.ensures.narrowed)) c.deliver_result.ensures.delivered
 
-pub returns-in-Ok-clause-read_fault : goal.returns-in-Ok-clause-read_fault
-returns-in-Ok-clause-read_fault g c = λ same.
-    absurd (result_no_fault (asked_by c.args.ask.now) c.narrow-answer.result c.deliver_result.result
+pub returns-in-Ok-settled-clause-read_fault : goal.returns-in-Ok-settled-clause-read_fault
+returns-in-Ok-settled-clause-read_fault g c = λ same.
+    absurd (result_no_fault (asked_by c.in-Ok-settled.ask) c.narrow-answer.result c.deliver_result.result
     (between g.D.Desk c.load_input.new.desk c.deliver_result.new.desk) c.deliver_result.ensures.delivered same)

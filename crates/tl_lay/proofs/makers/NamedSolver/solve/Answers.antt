@@ -1,8 +1,8 @@
 -- What a search promises besides is what the search that is named does.
 use Rattle.std.proofs.Common.{ℕ, sym, subst}
 use Rattle.std.specs.Prelude.{IfOk}
-use Rattle.tl_command.specs.declared.options.Search.{Search}
-use Rattle.tl_command.specs.declared.options.Search.TheVariants.{Rounds}
+use Rattle.tl_base.specs.declared.search.Search.{Search}
+use Rattle.tl_base.specs.declared.search.Search.TheVariants.{Rounds}
 use Rattle.tl_lay.specs.Answers.{IsOutcomeOf}
 use Rattle.tl_lay.proofs.makers.NamedSolver.solve.Goals as goal
 
