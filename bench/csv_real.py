@@ -10,8 +10,9 @@ from pathlib import Path
 
 TOP = Path(__file__).resolve().parent.parent
 sys.path[:0] = [str(TOP / "integrations" / "python"), str(TOP / "tests" / "python")]
+from breakings import Breakings, words_of  # noqa: E402
 from own_text import characters  # noqa: E402
-from tablelayout import decoding, kinds, records  # noqa: E402
+from tablelayout import decoding, kinds, records, rows  # noqa: E402
 
 PROGRAM = os.environ.get("TABLELAYOUT_PROGRAM", str(TOP / "crates" / "tablelayout" / "out" / "tablelayout"))
 FRONT = str(TOP / "integrations" / "python" / "front")
@@ -23,7 +24,7 @@ MARKS = set(records.DELIMITERS + '"')
 # The last line of a page that is cut to the limits.
 MORE = re.compile(r"^[0-9,]+ more (?:record|row|column)[^\n]*\n\Z", re.M)
 # What `show` says of its pages, and how it is counted.
-SAYINGS = {" with broken words": "with broken words", "read as ": "in another encoding", " and the first record ": "with long records",
+SAYINGS = {" break ": "with broken words", "read as ": "in another encoding", " and the first record ": "with long records",
            " fields than the first record": "with long records"}
 
 
@@ -63,6 +64,24 @@ def is_read_unchanged(path):
     return run([PROGRAM, *words], path.read_bytes()).returncode in (LOWEST, BOUNDED, NARROW)
 
 
+def compare_breakings(path, breakings):
+    """Lays out the records that are shown of a file by each breaking."""
+    text = decoding.decode(path.read_bytes()).text
+    read = records.read_csv(text, kinds.kind_by_name(path.name).detail).records
+    shown = records.cleaned(records.first_part(read).records)
+    data, _ = rows.csv_of(shown)
+
+    def ask(width, breaking):
+        ran = run([PROGRAM, "lay", str(width), "/dev/stdin", "/dev/stdout", "--csv", "--style", "compact", "--break", breaking], data)
+        page, _, message = ran.stdout.decode().rstrip("\n").rpartition("\n")
+        return page if ran.returncode in (LOWEST, BOUNDED) else None, message
+
+    try:
+        breakings.compare(words_of(" ".join(map(" ".join, shown))), ask)
+    except subprocess.TimeoutExpired:
+        print(f"  {path}: not by each breaking within {MOST_SECONDS} s")
+
+
 def show_file(path, width, count):
     """Shows a file, and counts how."""
     count["files"] += 1
@@ -91,15 +110,17 @@ def show_file(path, width, count):
 
 
 def main(folders, files=FILES, width=WIDTH):
-    total = Counter()
+    total, breakings = Counter(), Breakings()
     for folder in folders.split(":"):
         count, begun = Counter(), time.monotonic()
         for path in files_of(folder, int(files)):
             show_file(path, int(width), count)
+            compare_breakings(path, breakings)
         print(f"{folder}: " + ", ".join(f"{kind} {it}" for kind, it in count.items()) + f", {time.monotonic() - begun:.0f} s", flush=True)
         total += count
     print("all: " + ", ".join(f"{kind} {it}" for kind, it in total.items()))
-    return 1 if total["characters lost"] or 1000 * total["shown"] < WANTED_OF_1000 * total["files"] else 0
+    print(f"pages that fit by each breaking, and words that are broken though they are no wider than N:\n{breakings}")
+    return 1 if total["characters lost"] or breakings.broken() or 1000 * total["shown"] < WANTED_OF_1000 * total["files"] else 0
 
 
 if __name__ == "__main__":

@@ -29,14 +29,11 @@ def pages_of(folder, most):
 
 
 def lay_out(file, width):
-    """The status, the page and the message of the program, and the breaking that was taken."""
-    for breaking in ("words", "any"):
-        ran = subprocess.run([PROGRAM, "lay", str(width), "/dev/stdin", "/dev/stdout", "--style", "compact", "--break", breaking],
-                             input=file.data, stdout=subprocess.PIPE, check=False, timeout=MOST_SECONDS)
-        if ran.returncode != NARROW:
-            break
+    """The status, the page and the message of the program."""
+    ran = subprocess.run([PROGRAM, "lay", str(width), "/dev/stdin", "/dev/stdout", "--style", "compact", "--break", "fit"],
+                         input=file.data, stdout=subprocess.PIPE, check=False, timeout=MOST_SECONDS)
     page, _, message = ran.stdout.decode(errors="replace").rstrip("\n").rpartition("\n")
-    return ran.returncode, file.shown(page), message, breaking
+    return ran.returncode, file.shown(page), message
 
 
 def is_read_unchanged(path):
@@ -67,7 +64,7 @@ def first_words(text):
 def show_table(path, number, table, width, count):
     item = web_items.item_of(table)
     file = subset.File(item.source.data, item.blank)
-    status, page, message, breaking = lay_out(file, width)
+    status, page, message = lay_out(file, width)
     count["tables"] += 1
     for part in lost_in_cells(table):
         count["characters lost"] += 1
@@ -75,7 +72,7 @@ def show_table(path, number, table, width, count):
     if status in (LOWEST, BOUNDED):
         count["laid out"] += 1
         count["lowest"] += status == LOWEST
-        count["with broken words"] += breaking == "any"
+        count["with broken words"] += " break " in message
         count["cut to the limits"] += bool(item.more)
         missing = lost_on_page(file, page)
         if missing:

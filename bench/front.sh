@@ -4,7 +4,7 @@
 #
 # Of each folder it takes at most PAGES (20) pages of HTML, at even distances; 0 takes all. Each is parsed as a browser
 # parses it, each of its tables becomes a file of the subset, and the program lays it out on WIDTH (80) columns, with
-# words broken where none fits with whole words. Prints for each folder the pages, the tables, those that were laid out
+# as few words broken as can be (`--break fit`). Prints for each folder the pages, the tables, those that were laid out
 # and those that were refused with the reasons, and the characters lost.
 #
 # A character is lost that stands in a cell's text, as the parser has it, and not in the cell that is laid out, or not

@@ -15,6 +15,7 @@ slowest and the largest run; ends with 1 where something failed, which it names.
 """
 import os
 import random
+import re
 import resource
 import subprocess
 import sys
@@ -184,12 +185,20 @@ def changed_lines(rng, text):
 def options(rng, make):
     """The options of a layout that its check needs too, without the budget."""
     found = []
-    for name, values in (("--style", ("plain", "compact", "frame")), ("--break", ("words", "any")), ("--workers", ("2", "16"))):
+    for name, values in (("--style", ("plain", "compact", "frame")), ("--break", ("words", "any", "fit", "7")), ("--workers", ("2", "16"))):
         if rng.random() < 0.4:
             found += [name, rng.choice(values)]
     if make in CSV_KINDS:
         found += ["--csv"] + ["--head"] * rng.randint(0, 1) + rng.choice(([], ["--least", "5,0,12"]))
     return found
+
+
+def settled(given, status, message):
+    """The options for certificates of narrower pages: `fit` may come to another number there than the message names."""
+    if "fit" not in given or status not in (0, 3):
+        return given
+    found = re.search(r" break (\d+)\n$", message)
+    return [(found[1] if found else "words") if it == "fit" else it for it in given]
 
 
 class Runs:
@@ -199,15 +208,18 @@ class Runs:
         self.folder = folder
         self.statuses = defaultdict(Counter)
         self.failures = []
+        self.message = ""
         self.slowest = self.largest = (0, "")
 
     def fail(self, number, what, arguments):
         self.failures.append(f"file {number}: {what}: {' '.join(arguments)}")
 
     def run(self, number, kind, arguments, wanted):
-        """Runs the program, and gives its status, or None where it failed."""
-        process = subprocess.Popen([PROGRAM, *arguments], cwd=self.folder, stdout=subprocess.DEVNULL, stderr=subprocess.DEVNULL,
+        """Runs the program, keeps its message, and gives its status."""
+        process = subprocess.Popen([PROGRAM, *arguments], cwd=self.folder, stdout=subprocess.PIPE, stderr=subprocess.DEVNULL,
                                    preexec_fn=lambda: resource.setrlimit(resource.RLIMIT_CPU, (MOST_SECONDS, MOST_SECONDS + 1)))
+        self.message = process.stdout.read().decode()
+        process.stdout.close()
         _, ended, used = os.wait4(process.pid, 0)
         process.returncode = status = -os.WTERMSIG(ended) if os.WIFSIGNALED(ended) else os.WEXITSTATUS(ended)
         seconds = used.ru_utime + used.ru_stime
@@ -233,6 +245,7 @@ class Runs:
         arguments = [command[0], command[1], "in", "page", "cert", *command[2:], *given, *searched]
         whenever = STORED[command[0]]
         first = self.run(number, kind, arguments, whenever)
+        judged = given if command[0] == "lay" else settled(given, first, self.message)
         stored = self.files()
         least, more = whenever.get(first, (set(), set()))
         if not least <= set(stored) <= least | more:
@@ -242,7 +255,7 @@ class Runs:
         if self.run(number, kind, arguments, whenever) != first or self.files() != stored:
             self.fail(number, "the second run differs from the first", arguments)
         for name in set(stored) - PAGE:
-            self.check(number, "check", name, given, {0, 3, 4} if command[0] != "lay" else {first})
+            self.check(number, "check", name, judged, {0, 3, 4} if command[0] != "lay" else {first})
         if self.files() != stored:
             self.fail(number, "a check stored something", arguments)
 

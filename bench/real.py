@@ -9,12 +9,14 @@ import tempfile
 import time
 import unicodedata
 from collections import Counter, defaultdict
+from html import unescape
 from pathlib import Path
+
+from breakings import WIDTHS, Breakings, words_of
 
 HERE = Path(__file__).resolve().parent
 FILTER = HERE.parent / "integrations" / "pandoc" / "tablelayout.lua"
 PROGRAM = HERE.parent / "crates" / "tablelayout" / "out" / "tablelayout"
-WIDTHS = (40, 60, 80, 120)
 DOCUMENTS, TABLES, DOCUMENT_COLUMNS, MOST_SECONDS = 20, 10, 72, 60
 LOWEST, BOUNDED, NARROW = 0, 3, 4
 # A space at which no line breaks, as the filter writes it.
@@ -89,18 +91,19 @@ def tables_of(document, room, most):
         yield html, wanted_of(own.replace(UNDRAWN, ""), cells.replace(UNDRAWN, ""), html.count("<table") > 1)
 
 
-def lay_out(html, width, count):
-    """The page of the program, and whether it breaks words."""
-    command = [str(PROGRAM), "lay", str(width), "/dev/stdin", "/dev/stdout", "--style", "compact"]
-    seconds = 0.0
-    for breaking in ("words", "any"):
-        output, status, took, _ = run([*command, "--break", breaking], html.encode())
-        seconds += took
-        if status != NARROW:
-            break
+def ask(html, width, breaking):
+    """The page of the program, or None, its message, its status, and the seconds that it takes."""
+    command = [str(PROGRAM), "lay", str(width), "/dev/stdin", "/dev/stdout", "--style", "compact", "--break", breaking]
+    output, status, seconds, _ = run(command, html.encode())
     page, _, message = output.rstrip("\n").rpartition("\n")
+    return page if status in (LOWEST, BOUNDED) else None, message, status, seconds
+
+
+def lay_out(html, width, count):
+    """The page of the program, whether it breaks words, and the seconds that it takes."""
+    page, message, status, seconds = ask(html, width, "fit")
     count[{LOWEST: "lowest", BOUNDED: "bounded", NARROW: "narrow"}.get(status, message)] += 1
-    return page.replace(BLANK, " ") if status in (LOWEST, BOUNDED) else None, breaking == "any", seconds
+    return None if page is None else page.replace(BLANK, " "), " break " in message, seconds
 
 
 def browse(program, html, width, room):
@@ -156,7 +159,7 @@ def filter_document(document, totals):
 
 
 def main(folders, documents=DOCUMENTS, tables=TABLES):
-    totals, count, filtered, taken = defaultdict(Totals), Counter(), Counter(), 0
+    totals, count, filtered, breakings, taken = defaultdict(Totals), Counter(), Counter(), Breakings(), 0
     with tempfile.TemporaryDirectory() as name:
         room = Path(name)
         (room / "keep").write_text(KEEP, encoding="utf-8")
@@ -166,6 +169,8 @@ def main(folders, documents=DOCUMENTS, tables=TABLES):
             for path in paths:
                 for html, wanted in tables_of(path, room, int(tables)):
                     compare(html, wanted, room, totals, count)
+                    words = words_of(unescape(re.sub("<[^>]*>", " ", html)))
+                    breakings.compare(words, lambda width, breaking, html=html: ask(html, width, breaking)[:2])
                     found += 1
                 filter_document(path, filtered)
             print(f"{folder}: {found} tables of {len(paths)} documents", flush=True)
@@ -173,11 +178,12 @@ def main(folders, documents=DOCUMENTS, tables=TABLES):
     print(f"{taken} tables\nwidth program      fit    broken  lost   lines  seconds")
     for (width, program), it in totals.items():
         print(f"{width:5} {program:11} {it.fit:5} {it.broken:7} {it.lost:6} {it.lines:7} {it.seconds:8.1f}")
+    print(f"pages that fit by each breaking, and words that are broken though they are no wider than N:\n{breakings}")
     print("pages: " + ", ".join(f"{kind} {number}" for kind, number in count.most_common()))
     print("filter: " + ", ".join(f"{kind} {number}" for kind, number in filtered.items()))
     laid = count["lowest"] + count["bounded"]
     lost = filtered["characters lost"] + sum(it.lost for (_, program), it in totals.items() if program == "tablelayout")
-    return 1 if lost or 100 * laid < 99 * (sum(count.values()) - count["narrow"]) else 0
+    return 1 if lost or breakings.broken() or 100 * laid < 99 * (sum(count.values()) - count["narrow"]) else 0
 
 
 if __name__ == "__main__":

@@ -19,7 +19,7 @@ _tablelayout_options() {
 _tablelayout_values() {
     case $1 in
     --style) echo plain compact frame ;;
-    --break) echo words any ;;
+    --break) echo words any fit ;;
     --solver) echo plain best learn rounds ;;
     esac
 }

@@ -130,7 +130,7 @@ def drawn_source(draw: random.Random) -> Tuple[bytes, List[Option]]:
 
 
 CHOICES: Tuple[Tuple[str, Tuple[str, ...]], ...] = (
-    ("--style", ("plain", "compact", "frame")), ("--break", ("words", "any")), ("--budget", ("0", "2", "50", "100000")),
+    ("--style", ("plain", "compact", "frame")), ("--break", ("words", "any", "fit", "0", "12")), ("--budget", ("0", "2", "50", "100000")),
     ("--solver", ("plain", "best", "learn", "rounds")), ("--workers", ("1", "2", "4")))
 
 

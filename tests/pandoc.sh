@@ -41,6 +41,19 @@ fi
 # Settings.
 with_filter columns.md -M tablelayout-style=frame 2>&1 | expect frame.txt "in a frame"
 with_filter columns.md -M tablelayout-width=7 2>&1 | expect broken.txt "with broken words"
+for breaking in 0 2 fit; do
+    with_filter columns.md -M tablelayout-width=5 -M tablelayout-break="$breaking" 2>&1 |
+        expect_text $'Text.\n\naa cc\na  dd\nbb ee\nb' "with words broken by $breaking"
+done
+# The path has 10 columns, and its parts have 4 at most: the word of 7 columns stays whole, until the page is too narrow.
+printf '| a | b |\n|---|---|\n| src/lib.rt | harbour |\n' >"$room/made/path.md"
+with_filter "$room/made/path.md" -M tablelayout-width=12 2>&1 | expect_text $'a    b\nsrc/ harbour\nlib.\nrt' "with the path broken"
+with_filter "$room/made/path.md" -M tablelayout-width=11 2>&1 | expect_text $'a      b\nsrc/   harb\nlib.rt our' "with both words broken"
+with_filter columns.md -M tablelayout-width=7 -M tablelayout-break=3 2>&1 | expect broken.txt "with words of 3 columns whole"
+for other in some 501 03; do
+    with_filter columns.md -M tablelayout-break="$other" 2>&1 >"$room/page" | grep -o "tablelayout-break is .*" |
+        expect_text "tablelayout-break is $other, and has to be words, any, fit or from 0 to 500" "of no breaking"
+done
 with_filter columns.md -M tablelayout-style=some 2>&1 >"$room/page" | grep -o "tablelayout-style is .*" |
     expect_text "tablelayout-style is some, and has to be one of plain, compact, frame" "of no style"
 with_filter columns.md -M tablelayout-width=501 2>&1 >"$room/page" | grep -o "tablelayout-width is .*" |
@@ -56,6 +69,8 @@ stays "(aaa bbb cc dd ee): it stays as pandoc writes it: no layout fits 2 column
     columns.md -M tablelayout-width=2
 stays "(aaa bbb cc dd ee): it stays as pandoc writes it: no layout fits 5 columns, and the least width is 6" \
     columns.md -M tablelayout-width=5 -M tablelayout-break=words
+stays "(aaa bbb cc dd ee): it stays as pandoc writes it: no layout fits 5 columns, and the least width is 6" \
+    columns.md -M tablelayout-width=5 -M tablelayout-break=3
 {
     echo "<table><tr>"
     printf '<td>%d</td>' {1..61}
@@ -82,11 +97,11 @@ with_other columns.md -M tablelayout-width=12 | expect hurried.txt "by a program
 expect_text "tablelayout: table 1 (aaa bbb cc dd ee): its page may not be the lowest: bounded height 3 lower 2 width 6" \
     "on standard error of a program without cuts" <"$room/said"
 
-# All tables go through one run, and those whose words do not fit whole through one more.
+# All tables of a document go through one run, those whose words do not fit whole too.
 make_program "echo \"\$*\" >>'$room/runs'; exec '$program' \"\$@\""
 with_other ships.md | expect markdown.txt "by one run"
-with_other columns.md -M tablelayout-width=5 | expect_text $'Text.\n\naa cc\na  dd\nbb ee\nb' "by two runs"
-expect_text $'batch\nbatch\nbatch' "as runs" <"$room/runs"
+with_other columns.md -M tablelayout-width=5 | expect_text $'Text.\n\naa cc\na  dd\nbb ee\nb' "by one run with broken words"
+expect_text $'batch\nbatch' "as runs" <"$room/runs"
 
 # A program that is missing, and one that ends after its first answer.
 cat columns.md <(echo) columns.md >"$room/made/twice.md"

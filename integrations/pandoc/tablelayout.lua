@@ -20,7 +20,7 @@ local REPLACEMENT = "\u{FFFD}"
 local TEXT_FORMATS = { plain = true, ansi = true }
 local MARKDOWN_FORMATS = { commonmark = true, commonmark_x = true, gfm = true }
 local STYLES = { "plain", "compact", "frame" }
-local BREAKS = { "words", "any" }
+local BREAKS = { "words", "any", "fit" }
 
 local is_text = TEXT_FORMATS[FORMAT]
 local is_markdown = MARKDOWN_FORMATS[FORMAT] or FORMAT:match("^markdown") ~= nil
@@ -396,13 +396,12 @@ local function read_answers(asked, printed)
 end
 
 -- Asks one run of the program for the pages of some tables.
-local function lay_out(asked, breaking)
+local function lay_out(asked)
     if #asked == 0 then
         return
     end
     local requests = asked:map(function(it)
-        it.status = nil
-        local words = { "lay", it.width, "--style", settings.style, "--break", breaking, #it.html }
+        local words = { "lay", it.width, "--style", settings.style, "--break", settings.breaking, #it.html }
         return table.concat(words, " ") .. "\n" .. it.html
     end)
     local is_done, result = pcall(pandoc.pipe, settings.program, { "batch" }, table.concat(requests))
@@ -416,22 +415,15 @@ local function lay_out(asked, breaking)
     end
 end
 
--- Asks for the pages of all tables, with whole words where a layout has them.
+-- Asks for the pages of all tables.
 local function lay_out_all()
     local written = write_parts()
     for _, it in ipairs(tables) do
         it.html = html_of(it.out, written)
     end
-    local has_room = function(it)
+    lay_out(tables:filter(function(it)
         return it.width >= 1
-    end
-    lay_out(tables:filter(has_room), settings.breaking or "words")
-    if not settings.breaking then
-        local is_narrow = function(it)
-            return it.status == STATUS_NARROW
-        end
-        lay_out(tables:filter(is_narrow), "any")
-    end
+    end))
 end
 
 -- The first words of a table, to name it by.
@@ -694,6 +686,12 @@ local function refuse_setting(name, text, wanted)
     error(string.format("tablelayout-%s is %s, and has to be %s", name, text, wanted))
 end
 
+-- A number of columns above 0, as the program spells it, or nothing.
+local function columns_of(text)
+    local columns = text:match("^[1-9]%d?%d?$") and tonumber(text)
+    return columns and columns <= MOST_COLUMNS and columns or nil
+end
+
 -- One of the values, or nothing.
 local function choice_setting(meta, name, values)
     local text = setting(meta, name)
@@ -703,13 +701,22 @@ local function choice_setting(meta, name, values)
     return text
 end
 
+-- How words break, as the program spells it: without the setting as few as can be.
+local function break_setting(meta)
+    local text = setting(meta, "break") or "fit"
+    if text ~= "0" and not columns_of(text) and not pandoc.List(BREAKS):includes(text) then
+        refuse_setting("break", text, table.concat(BREAKS, ", ") .. " or from 0 to " .. MOST_COLUMNS)
+    end
+    return text
+end
+
 local function width_setting(meta)
     local text = setting(meta, "width")
     if not text then
         return math.min(PANDOC_WRITER_OPTIONS.columns, MOST_COLUMNS)
     end
-    local width = text:match("^[1-9]%d?%d?$") and tonumber(text)
-    if not width or width > MOST_COLUMNS then
+    local width = columns_of(text)
+    if not width then
         refuse_setting("width", text, "from 1 to " .. MOST_COLUMNS)
     end
     return width
@@ -723,7 +730,7 @@ local function lay_out_document(doc)
     settings = {
         program = find_program(),
         style = choice_setting(doc.meta, "style", STYLES) or "compact",
-        breaking = choice_setting(doc.meta, "break", BREAKS),
+        breaking = break_setting(doc.meta),
     }
     parts, tables, table_notes = pandoc.List({}), pandoc.List({}), no_notes()
     local width, notes = width_setting(doc.meta), no_notes()

@@ -11,6 +11,7 @@ from pathlib import Path
 import common
 
 import tablelayout
+from tablelayout.messages import headline
 from tablelayout.protocol import BadAnswer, read_answer, request
 
 COLUMNS = b"<table><tr><td>aaa bbb<td>cc dd ee</table>"
@@ -82,6 +83,27 @@ class Answers(unittest.TestCase):
         hurried = self.layouter.tidy(html=COLUMNS, width=12, budget=2)
         self.same_as_command(hurried, "tidy", 12, COLUMNS, "--budget", "2")
         self.assertEqual((hurried.status, hurried.is_lowest, hurried.is_chosen), (3, True, False))
+
+    def test_fit(self):
+        # Words of 3 columns break, and those of 2 stay whole: columns of 2 and 2, with 2 between them.
+        page = self.layouter.lay(html=COLUMNS, width=6, breaking="fit")
+        self.same_as_command(page, "lay", 6, COLUMNS, "--break", "fit")
+        self.assertEqual((page.text, page.message), ("aa  cc\na   dd\nbb  ee\nb     \n", "lowest height 4 width 6 break 2"))
+        self.assertEqual((page.breaking, page.height, page.width, page.is_lowest), (2, 4, 6, True))
+        for breaking, found in (("fit", 2), (str(page.breaking), None)):
+            verdict = self.layouter.check(html=COLUMNS, width=6, certificate=page.certificate, breaking=breaking)
+            self.assertEqual((verdict.claim, verdict.height, verdict.breaking), ("lowest", 4, found))
+        page = self.layouter.tidy(html=COLUMNS, width=6, breaking="fit")
+        self.same_as_command(page, "tidy", 6, COLUMNS, "--break", "fit")
+        self.assertEqual((page.breaking, page.height, page.width, page.is_chosen), (2, 4, 6, True))
+        # Of the word of 600 columns each half is on a line; the widest page has 500.
+        page = self.layouter.narrow([["x" * 600]], 2, breaking="fit")
+        self.assertEqual((page.breaking, page.width, page.is_narrowest), (500, 300, True))
+        # Whole words fit.
+        self.assertIsNone(self.layouter.lay(html=COLUMNS, width=7, breaking="fit").breaking)
+        with self.assertRaises(tablelayout.TooNarrow) as caught:
+            self.layouter.lay(html=COLUMNS, width=3, breaking="fit")
+        self.assertEqual((caught.exception.message, caught.exception.least), ("narrow least 4 width 3", 4))
 
     def test_too_narrow(self):
         with self.assertRaises(tablelayout.TooNarrow) as caught:
@@ -330,6 +352,16 @@ class Processes(unittest.TestCase):
         finally:
             tablelayout.coprocess.CoProcess._read_more = real
         self.assertEqual(self.layouter.lay([["c"]]).text, "c\n")
+
+
+class Messages(unittest.TestCase):
+    def test_numbers_of_columns_that_break(self):
+        for message in ("lowest height 2 width 6", "bounded height 3 lower 2 width 7", "slimmest width 9 height 2", "tidy height 2 width 9",
+                        "bounded width 9 least 7", "bounded width none least 7", "untidy width 9 least 7", "untidy choice"):
+            with self.subTest(message=message):
+                said, broken = headline(message), headline(f"{message} break 0")
+                self.assertEqual((said.breaking, broken.breaking), (None, 0))
+                self.assertEqual(broken.numbers, {**said.numbers, "break": "0"})
 
 
 class Protocol(unittest.TestCase):

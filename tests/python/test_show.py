@@ -130,9 +130,48 @@ class Show(unittest.TestCase):
             self.assertLess(after.children_user - before.children_user, 2)
 
     def test_too_narrow(self):
-        for arguments, wanted in ((["--width", 12, "--break", "words"], "narrow.txt"), (["--width", 4, "--break", "any"], "narrow_any.txt")):
+        for arguments, wanted in ((["--width", 12, "--break", "words"], "narrow.txt"), (["--width", 4, "--break", "any"], "narrow_any.txt"),
+                                  (["--width", 4], "narrow_any.txt")):
             ran = show(EXAMPLES / "stock.html", "--strict", *arguments)
             self.assertEqual(ran.said + f"status {ran.status}\n", (DRAWN / wanted).read_text())
+
+    def test_breaking_of_wide_words(self):
+        path = b"<table><tr><td>src/lib.rt</table>"
+        for number, width, wanted in ((10, 10, ["src/lib.rt"]), (9, 7, ["src/", "lib.rt"]), (4, 4, ["src/", "lib.", "rt"]),
+                                      (3, 4, ["src/", "lib.", "rt"]), (0, 5, ["src/l", "ib.rt"])):
+            with self.subTest(number=number, width=width):
+                ran = show("--break", number, "--width", width, data=path)
+                self.assertEqual((ran.lines, ran.said, ran.status), (wanted, "", 0))
+        hint = "with --break fit, which breaks words, narrower pages may fit\n"
+        for number, width, least, data, said in ((10, 9, 10, path, hint), (4, 3, 4, path, hint), (0, 2, 3, b"<table><tr><td>a<td>b</table>", "")):
+            with self.subTest(number=number, width=width):
+                ran = show("--strict", "--break", number, "--width", width, data=data)
+                self.assertEqual((ran.said, ran.status), (f"narrow least {least} width {width}\n"
+                                                          f"no layout fits {width} columns: the least width is {least}\n{said}", 4))
+        for number in ("501", "09", "5.0"):
+            self.assertEqual(show("--break", number, data=path).status, 2)
+
+    def test_as_few_broken_words_as_can_be(self):
+        path, pair = b"<table><tr><td>src/lib.rt</table>", b"<table><tr><td>src/lib.rt<td>harbour</table>"
+        for data, width, wanted, said in (
+            # Whole words fit: the path has 10 columns, and the other word 7.
+            (path, 10, ["src/lib.rt"], "lowest height 1 width 10"),
+            (pair, 18, ["src/lib.rt harbour"], "lowest height 1 width 18"),
+            # The path breaks into parts of 4, 4 and 2 columns.
+            (path, 7, ["src/", "lib.rt"], "lowest height 2 width 6 break 9"),
+            (pair, 12, ["src/ harbour", "lib.", "rt"], "lowest height 3 width 12 break 9"),
+            # The other word breaks too, and the parts stay whole.
+            (pair, 11, ["src/   harb", "lib.rt our"], "lowest height 2 width 11 break 6"),
+            # Parts break, but for the one of 2 columns, and at last that one too.
+            (path, 3, ["src", "/li", "b.", "rt"], "lowest height 4 width 3 break 3"),
+            (path, 1, list("src/lib.rt"), "lowest height 10 width 1 break 1"),
+        ):
+            for more in ([], ["--break", "fit"]):
+                with self.subTest(data=data, width=width, more=more):
+                    ran = show("--verbose", "--width", width, *more, data=data)
+                    self.assertEqual((ran.lines, ran.said, ran.status), (wanted, f"{said}\n", 0))
+        ran = show("--verbose", "--csv", "--width", 12, data=b"src/lib.rt,harbour\n")
+        self.assertEqual((ran.lines, ran.said), (["src/ harbour", "lib.", "rt"], "lowest height 3 width 12 break 9\n"))
 
     @common.needs_parser
     def test_page_of_several_tables(self):
@@ -359,6 +398,13 @@ class Viewers(unittest.TestCase):
     def test_textconv_leaves_no_text_out(self):
         self.assertEqual(self.run_on("textconv", "h.html", PAGE).lines,
                          ["before", "", "Ports", "name  depth", "Leith 9", "", "- between", "", "one [two]"])
+
+    def test_broken_words(self):
+        (self.room / "a.csv").write_bytes(b"src/lib.rt,harbour\n")
+        self.assertEqual(Run("lessopen", self.room / "a.csv", COLUMNS="12").lines, ["src/ harbour", "lib.", "rt"])
+        # The word of 120 columns breaks, into two lines on the narrowest page, and the path stays whole.
+        ran = self.run_on("textconv", "b.csv", b"src/lib.rt," + b"x" * 120 + b"\n")
+        self.assertEqual(ran.lines, ["src/lib.rt " + "x" * 60, " " * 11 + "x" * 60])
 
     def test_textconv_of_widths(self):
         for widths, wanted in (

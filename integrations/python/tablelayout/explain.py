@@ -2,7 +2,7 @@
 from __future__ import annotations
 
 import unicodedata
-from typing import List, NamedTuple
+from typing import List, NamedTuple, Optional
 
 from .errors import BadInput, Error, TooNarrow
 from .places import Place, columns_of, place_at, record_at, width_of
@@ -10,6 +10,8 @@ from .sources import Source
 
 _LEAST_ROOM = 20
 _DOTS = "..."
+# The breakings with which no page is too narrow that another one would fit.
+_NARROWEST = ("any", "fit", "0")
 # More than the widest terminal shows, but for characters that take no column.
 _NEAR_CHARACTERS = 4096
 
@@ -68,12 +70,12 @@ def quoted_place(data: bytes, at: int, room: int) -> List[str]:
     return [f"line {place.line}, column {place.column}:", text, " " * indent + "^"]
 
 
-def explained(error: Error, source: Source, width: int, breaking: str, room: int) -> List[str]:
+def explained(error: Error, source: Source, width: int, breaking: Optional[str], room: int) -> List[str]:
     """The message of a refusal, and what a user can make of it, line by line."""
     if isinstance(error, TooNarrow):
         lines = [error.message, f"no layout fits {width} columns: the least width is {error.least}"]
-        hint = "with --break any, which breaks words, narrower pages may fit"
-        return lines if breaking == "any" else [*lines, hint]
+        hint = "with --break fit, which breaks words, narrower pages may fit"
+        return lines if breaking in _NARROWEST else [*lines, hint]
     if isinstance(error, BadInput) and error.line is not None:
         at = record_at(source.data, error.at) if source.is_csv else error.at
         return [error.message, *quoted_place(source.data, at, room)]

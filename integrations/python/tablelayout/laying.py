@@ -1,7 +1,7 @@
 """Lays the tables that are shown out, in the way that fits."""
 from __future__ import annotations
 
-from typing import TYPE_CHECKING, NamedTuple, Optional, Sequence
+from typing import TYPE_CHECKING, NamedTuple, Optional
 
 from .errors import TooNarrow
 from .items import Item
@@ -12,8 +12,8 @@ from .sources import Options, Source
 if TYPE_CHECKING:
     from .vertical import Columns
 
-# How words break where none is asked for: whole if a layout has them, else between any two characters.
-BREAKS = ("words", "any")
+# How words break where nothing else is asked for: as few as can be, so that a layout fits.
+BREAKING = "fit"
 
 
 class Shown(NamedTuple):
@@ -22,12 +22,11 @@ class Shown(NamedTuple):
     text: str
     message: str
     status: int
-    breaking: str
     more: str
 
 
 class Way(NamedTuple):
-    """How tables are laid out: for which width, in which breakings, one after the other, and whether as records.
+    """How tables are laid out: for which width, by which options, and whether as records.
 
     ``records`` is True for records, False for never, and None for records where nothing else fits. ``is_bold`` shows heads
     in bold.
@@ -35,19 +34,13 @@ class Way(NamedTuple):
 
     width: int
     options: Options
-    breaks: Sequence[str] = BREAKS
     records: Optional[bool] = None
     is_bold: bool = False
 
 
-def _lay_source(layouter: Layouter, source: Source, way: Way) -> "tuple[LowPage, str]":
-    """The page, and the breaking with which it fits. Raises what Layouter.lay does."""
-    for breaking in way.breaks[:-1]:
-        try:
-            return layouter.lay_source(source, way.width, way.options._replace(breaking=breaking)), breaking
-        except TooNarrow:
-            pass
-    return layouter.lay_source(source, way.width, way.options._replace(breaking=way.breaks[-1])), way.breaks[-1]
+def _with_breaking(options: Options, page: LowPage) -> Options:
+    """Options by which the words of a part of the page break as they do on the whole page."""
+    return options if page.breaking is None else options._replace(breaking=str(page.breaking))
 
 
 def _lay_records(layouter: Layouter, item: Item, columns: "Columns", way: Way) -> Shown:
@@ -56,10 +49,10 @@ def _lay_records(layouter: Layouter, item: Item, columns: "Columns", way: Way) -
 
     vertical = vertical_of(columns)
     file = file_of(vertical.html)
-    page, breaking = _lay_source(layouter, Source(file.data), way)
+    page = layouter.lay_source(Source(file.data), way.width, way.options)
     hint = "; --rows chooses others" if item.source.is_rows and not item.more else ""
     more = " and ".join(it for it in (f"{vertical.more:,} more records" if vertical.more else "", item.more) if it)
-    return Shown(file.shown(page.text), page.message, page.status, breaking, more + (hint if vertical.more else ""))
+    return Shown(file.shown(page.text), page.message, page.status, more + (hint if vertical.more else ""))
 
 
 def lay_item(layouter: Layouter, item: Item, way: Way) -> Shown:
@@ -68,7 +61,7 @@ def lay_item(layouter: Layouter, item: Item, way: Way) -> Shown:
     if columns:
         return _lay_records(layouter, item, columns, way)
     try:
-        page, breaking = _lay_source(layouter, item.source, way)
+        page = layouter.lay_source(item.source, way.width, way.options)
     except TooNarrow:
         columns = item.columns() if way.records is None else None
         if not columns:
@@ -79,5 +72,5 @@ def lay_item(layouter: Layouter, item: Item, way: Way) -> Shown:
     if way.is_bold:
         from .bold import bolded, head_height
 
-        text = bolded(text, head_height(layouter, page, way.options._replace(breaking=breaking)))
-    return Shown(text, page.message, page.status, breaking, item.more)
+        text = bolded(text, head_height(layouter, page, _with_breaking(way.options, page)))
+    return Shown(text, page.message, page.status, item.more)

@@ -131,8 +131,8 @@ class Layouter:
         ``least`` how many columns of text the first columns have at least.
 
         ``style``, ``breaking``, ``budget`` (in cuts), ``solver`` and ``workers`` are the command's options ``--style``,
-        ``--break``, ``--budget``, ``--solver`` and ``--workers``; None leaves them to the program. ``more`` has the words of
-        further options.
+        ``--break``, ``--budget``, ``--solver`` and ``--workers``; None leaves them to the program. With ``breaking="fit"`` as
+        few words as can be break, and the page's ``breaking`` says which. ``more`` has the words of further options.
 
         Raises TooNarrow, BadInput, BadCell, Overlap, LimitPassed, OutOfMemory, BadRequest or ProgramFault. That the budget
         ended the search is no error: the page fits, and ``is_lowest`` is False.

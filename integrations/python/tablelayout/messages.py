@@ -2,7 +2,7 @@
 from __future__ import annotations
 
 import re
-from typing import Dict, NamedTuple
+from typing import Dict, NamedTuple, Optional
 
 from . import errors
 from .places import place_at, record_at
@@ -28,6 +28,11 @@ class Headline(NamedTuple):
         """The number of this name."""
         return int(self.numbers.get(name, otherwise))
 
+    @property
+    def breaking(self) -> Optional[int]:
+        """The number of columns above which words may break, if ``--break fit`` found that whole words do not fit."""
+        return int(self.numbers["break"]) if "break" in self.numbers else None
+
 
 _KINDS = frozenset(("lowest", "bounded", "slimmest", "tidy", "untidy"))
 
@@ -37,6 +42,8 @@ def headline(message: str) -> Headline:
     kind, *words = message.split() or [""]
     if kind not in _KINDS:
         raise errors.ProgramFault(f"the program's message is {message!r}")
+    # In ``untidy choice`` no number follows the name.
+    words = words[1:] if words[:1] == ["choice"] else words
     return Headline(kind, dict(zip(words[::2], words[1::2])))
 
 

@@ -24,7 +24,8 @@ class Page:
     """A page of text. ``str()`` and ``print()`` give its text.
 
     ``text`` has the lines, each with a line feed. ``height`` counts lines and ``width`` columns of a terminal.
-    ``message`` is that of the command.
+    ``message`` is that of the command. With ``breaking="fit"`` the page's ``breaking`` is the number of columns above which
+    words may break, and None where whole words fit; with any other it is None.
     """
 
     def __init__(self, answer: Answer, again: Again, relay: Relay) -> None:
@@ -33,6 +34,7 @@ class Page:
         self.status = answer.status
         self.height = self.text.count("\n")
         self.width = width_of(self.text.partition("\n")[0])
+        self.breaking = headline(answer.message).breaking
         self._again = again
         self._relay = relay
 
@@ -131,7 +133,8 @@ class Verdict(NamedTuple):
     """What a valid certificate says.
 
     ``claim`` is ``lowest``, ``bounded`` or ``narrow``. ``height`` and ``width`` are those of the page, ``lower`` a number
-    of lines that none is below; with ``narrow`` they are None, and no page has fewer columns than ``least``.
+    of lines that none is below; with ``narrow`` they are None, and no page has fewer columns than ``least``. ``breaking`` is
+    that of a page.
     """
 
     claim: str
@@ -140,13 +143,14 @@ class Verdict(NamedTuple):
     width: Optional[int] = None
     lower: Optional[int] = None
     least: Optional[int] = None
+    breaking: Optional[int] = None
 
 
 def verdict_of(message: str) -> Verdict:
     """The verdict that a message of ``check`` gives, of status 0 or 3."""
     said = headline(message)
     height = said.number("height", 0)
-    return Verdict(said.kind, message, height, said.number("width", 0), said.number("lower", height))
+    return Verdict(said.kind, message, height, said.number("width", 0), said.number("lower", height), breaking=said.breaking)
 
 
 class RichPage:

@@ -13,7 +13,7 @@ from .faults import BadChoice, BadFile, LongFile, MissingPackage, PandocFault
 from .inputs import read_input
 from .items import Item, Reading, read_items
 from .kinds import CSV, HTML, JSON, Kind, kind_by_content, kind_by_name
-from .laying import BREAKS, Shown, Way, lay_item
+from .laying import BREAKING, Shown, Way, lay_item
 from .layouter import Layouter
 from .records import NAMED_DELIMITERS, find_delimiter
 from .sources import Options, Source, csv_words
@@ -49,7 +49,8 @@ def parser() -> Parser:
     it.add_argument("--records", action=_Records, help="each row as two columns, of names and values")
     it.add_argument("--strict", action="store_true", help="only what the program itself reads, with the place of what it does not")
     it.add_argument("--style", default="compact", metavar="STYLE", help="how the page is drawn: plain, compact (without it), frame")
-    it.add_argument("--break", dest="breaking", metavar="words|any", help="how words break; any where they do not fit whole, without it")
+    it.add_argument("--break", dest="breaking", metavar="words|any|fit|N",
+                    help="how words break: not, all, as few as can be (without it), or those wider than N columns")
     it.add_argument("--budget", type=whole_number, metavar="N", help="how many cuts one search may make")
     it.add_argument("--solver", metavar="SEARCH", help="which search finds the page")
     it.add_argument("--workers", type=whole_number, metavar="K", help="how many workers search at one time")
@@ -117,10 +118,10 @@ class _Show:
         self._layouter = layouter
         self._room = terminal.columns()
         self._says_numbers = terminal.is_terminal() if given.is_verbose is None else given.is_verbose
-        options = Options(given.style, None, given.budget, given.solver, given.workers, ("--html",) if given.html else ())
-        breaks = (given.breaking,) if given.breaking else BREAKS
+        more = ("--html",) if given.html else ()
+        options = Options(given.style, given.breaking or BREAKING, given.budget, given.solver, given.workers, more)
         records = False if given.html or given.strict else given.records
-        self._way = Way(given.width or self._room, options, breaks, records, terminal.has_bold() and not given.html)
+        self._way = Way(given.width or self._room, options, records, terminal.has_bold() and not given.html)
 
     def run(self) -> int:
         """Shows the file, and returns the status."""
@@ -194,11 +195,11 @@ class _Show:
         self._write(shown.text)
         if shown.more:
             self._write(shown.more + "\n")
-        self._note(shown.message + (" with broken words" if shown.breaking == "any" and not self._given.breaking else ""))
+        self._note(shown.message)
         return shown.status
 
     def _explained(self, error: Error, source: Source) -> List[str]:
-        return explained(error, source, self._way.width, self._way.breaks[-1], self._room)
+        return explained(error, source, self._way.width, self._way.options.breaking, self._room)
 
     def _write(self, text: str) -> None:
         terminal.write_page(text.encode("utf-8", "replace"))

@@ -9,7 +9,7 @@ from .errors import Error, TooNarrow
 from .faults import BadChoice, BadFile, MissingPackage, PandocFault
 from .items import Item, read_parts
 from .kinds import CSV, HTML, kind_by_content, kind_by_name
-from .laying import BREAKS, Way, lay_item
+from .laying import BREAKING, Way, lay_item
 from .layouter import Layouter
 from .pages import TidyPage
 from .sources import Options
@@ -33,7 +33,7 @@ def _joined(texts: Iterable[str]) -> bytes:
 
 
 def _shown_parts(name: str, data: bytes) -> bytes:
-    way = Way(terminal.columns(), Options(_STYLE))
+    way = Way(terminal.columns(), Options(_STYLE, BREAKING))
 
     def shown(part: Union[str, Item]) -> str:
         if isinstance(part, str):
@@ -84,19 +84,14 @@ def _page_of_widths(layouter: Layouter, item: Item, widths: Sequence[int]) -> Op
     if source is None or not 1 <= columns <= MOST_WIDTH:
         return None
     try:
-        return layouter.tidy_source(source, columns, Options(_STYLE, BREAKS[0]))
+        return layouter.tidy_source(source, columns, Options(_STYLE, "words"))
     except TooNarrow:
         return None
 
 
 def _tidy_page(layouter: Layouter, item: Item) -> TidyPage:
     """The page that is the same whatever the search."""
-    for breaking in BREAKS[:-1]:
-        try:
-            return layouter.tidy_source(item.source, _DIFF_COLUMNS, Options(_STYLE, breaking))
-        except TooNarrow:
-            pass
-    return layouter.tidy_source(item.source, _DIFF_COLUMNS, Options(_STYLE, BREAKS[-1]))
+    return layouter.tidy_source(item.source, _DIFF_COLUMNS, Options(_STYLE, BREAKING))
 
 
 def _diffable_page(layouter: Layouter, item: Item, widths: Sequence[int]) -> str:
