@@ -18,10 +18,9 @@ use Rattle.tl_table.specs.declared.cell.Table.{Table, roll-Table, out-roll-Table
 use Rattle.tl_table.specs.declared.cell.TableCell.{roll-TableCell, out-roll-TableCell}
 use Rattle.tl_table.specs.Tables.{OpenTable, OpenCell, OpenContent}
 use Rattle.tl_columns.specs.Columns.{slot_in}
-use Rattle.tl_read.specs.declared.reading.Reading.TheVariants as readings
-use Rattle.tl_read.specs.declared.refusal.Refusal.{Refusal}
 use Rattle.tl_read.specs.declared.source.Source.{Source}
-use Rattle.tl_read.specs.Reading.{too_long}
+use Rattle.tl_read.specs.Reading.{with_breaking}
+use Rattle.tl_read.proofs.Readings.{table_within}
 use Rattle.tl_fit.specs.Fit.{IsTableWith, IsGreatest, IsFit}
 use Rattle.tl_fit.specs.Units.{units_in_table, units_in_cell, units_in_content}
 use Rattle.tl_fit.proofs.UnitsOpen.{open_units, units_in_table-out, units_in_cell-out, units_in_content-out}
@@ -85,15 +84,11 @@ units_of_outer box is =
 
 -- ---- bytes past the limit of a file are no table
 
--- a table is no refusal
-table_not_refused : (table : Table) (refusal : Refusal) → readings.Table table ≡ readings.Refused refusal → ⊥
-table_not_refused table refusal e = absurd cc
-
 module _ (source : Source) (bytes : List ℕ) (past : MAX_FILE_BYTES < length bytes) where
   -- they are no table, however words are broken
   no_table : (breaking : Breaking) (table : Table) → IsTableWith breaking source bytes table → ⊥
-  no_table breaking table (inl is) = absurd (table_not_refused table too_long is.1)
-  no_table breaking table (inr is) = omega (arith, past, is.0)
+  no_table breaking table is =
+      omega (arith, past, (table_within (with_breaking breaking source) bytes table is).0)
 
   -- their words stay whole, whatever the page
   words_whole : (style : Style) (width : ℕ) → IsFit source style width bytes Words
