@@ -1,1 +1,2 @@
+-- What private functions promise each other. No public clause cites these files.
 pub mod Headings
