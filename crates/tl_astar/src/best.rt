@@ -6,7 +6,7 @@ ghost use Rattle.tl_astar.specs.Best.{IsBestOutcome};
 use crate::search::Search;
 use std::alloc::{AllocError, Global};
 use tl_problem::Problem;
-use tl_solve::{Outcome, Solver};
+use tl_solve::{Outcome, Solver, Watch, Watcher};
 
 /// Cuts of the zones that may hold a lower layout one of least bound, the newest of equals, until none is
 /// left or the budget is spent. Where each cell has the same steps by `low` and by `high`, a zone whose
@@ -30,7 +30,12 @@ impl Solver for Best {
 
     ghost besides = { λ _ problem budget outcome. IsBestOutcome problem budget outcome };
 
-    fn solve(&mut self, problem: &Problem, budget: u32) -> Result<Outcome, AllocError> {
+    fn solve<W: Watcher>(
+        &mut self,
+        problem: &Problem,
+        budget: u32,
+        watch: &Watch<'_, W>,
+    ) -> Result<Outcome, AllocError> {
         let mut search = Search::begin(self.alloc, problem)?;
         while let Some(first) = search.next(problem) {
             if search.arena.cuts() == budget {
@@ -38,6 +43,7 @@ impl Solver for Best {
             }
             if let Some(cut) = search.choose(problem, first)? {
                 search.cut(problem, cut)?;
+                search.arena.show(problem, watch);
             }
         }
         let found = search.finish(problem, budget)?;

@@ -18,9 +18,10 @@ use tl_command::{Ask, Command};
 use tl_lay::{Answer, check, lay, narrow, tidy};
 use tl_program::{Report, fitted_in, settled, task_of, task_on, texts_of};
 use tl_request::Arrival;
+use tl_solve::Watcher;
 
 /// The answer to a request that was taken. The error says that memory ran out.
-pub fn answer_to<R: Threads + Sync, G: Gate>(
+pub fn answer_to<R: Threads + Sync, G: Gate + Watcher>(
     rt: &R,
     alloc: Global,
     arrival: &Arrival,
@@ -36,7 +37,7 @@ pub fn answer_to<R: Threads + Sync, G: Gate>(
 }
 
 /// The answer to what is asked of the files of a request; out of memory where one of them is not held.
-fn answer_files<R: Threads + Sync, G: Gate>(
+fn answer_files<R: Threads + Sync, G: Gate + Watcher>(
     rt: &R,
     alloc: Global,
     ask: &Ask<'_>,
@@ -57,7 +58,7 @@ fn answer_files<R: Threads + Sync, G: Gate>(
 }
 
 /// The answer to what is asked of the bytes of a file: with `fit` the breaking is found for them.
-fn answer_asked<R: Threads + Sync, G: Gate>(
+fn answer_asked<R: Threads + Sync, G: Gate + Watcher>(
     rt: &R,
     alloc: Global,
     ask: &Ask<'_>,
@@ -76,7 +77,7 @@ fn answer_asked<R: Threads + Sync, G: Gate>(
 }
 
 /// The answer to what is asked of the bytes of a file, and of those of a certificate, if it is a check.
-fn answer_command<R: Threads + Sync, G: Gate>(
+fn answer_command<R: Threads + Sync, G: Gate + Watcher>(
     rt: &R,
     alloc: Global,
     ask: &Ask<'_>,
@@ -99,7 +100,7 @@ fn answer_command<R: Threads + Sync, G: Gate>(
 }
 
 /// What `lay` answers.
-fn answer_lay<R: Threads + Sync, G: Gate>(
+fn answer_lay<R: Threads + Sync, G: Gate + Watcher>(
     rt: &R,
     alloc: Global,
     ask: &Ask<'_>,
@@ -115,7 +116,7 @@ fn answer_lay<R: Threads + Sync, G: Gate>(
 }
 
 /// What `narrow` answers.
-fn answer_narrow<R: Threads + Sync, G: Gate>(
+fn answer_narrow<R: Threads + Sync, G: Gate + Watcher>(
     rt: &R,
     alloc: Global,
     ask: &Ask<'_>,
@@ -132,7 +133,7 @@ fn answer_narrow<R: Threads + Sync, G: Gate>(
 }
 
 /// What `tidy` answers.
-fn answer_tidy<R: Threads + Sync, G: Gate>(
+fn answer_tidy<R: Threads + Sync, G: Gate + Watcher>(
     rt: &R,
     alloc: Global,
     ask: &Ask<'_>,
@@ -148,7 +149,7 @@ fn answer_tidy<R: Threads + Sync, G: Gate>(
 }
 
 /// What `check` finds.
-fn answer_check<R: Threads + Sync, G: Gate>(
+fn answer_check<R: Threads + Sync, G: Gate + Watcher>(
     rt: &R,
     alloc: Global,
     ask: &Ask<'_>,

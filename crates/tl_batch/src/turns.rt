@@ -19,6 +19,7 @@ use std::thread::Threads;
 use tl_base::Gate;
 use tl_exchange::Exchange;
 use tl_request::{Arrival, receive_request};
+use tl_solve::Watcher;
 
 /// Whether the words of a command line ask for [`batch`].
 pub fn asks_for_batch(words: &[String]) -> bool
@@ -40,7 +41,7 @@ fn is_same(one: &str, other: &str) -> bool
 /// Answers the requests that come over the exchange, each at once and in their order, until they end. What workers search or
 /// judge at one time passes the gate, piece by piece, once before it begins. Where memory runs out for a request, that
 /// is its answer, and the next one is taken.
-pub fn batch<R: Threads + Sync, E: Exchange, G: Gate>(
+pub fn batch<R: Threads + Sync, E: Exchange, G: Gate + Watcher>(
     rt: &R,
     alloc: Global,
     exchange: &mut E,
@@ -58,7 +59,7 @@ pub fn batch<R: Threads + Sync, E: Exchange, G: Gate>(
 }
 
 /// Answers the next request. The error says how the run ends.
-fn take_turn<R: Threads + Sync, E: Exchange, G: Gate>(
+fn take_turn<R: Threads + Sync, E: Exchange, G: Gate + Watcher>(
     rt: &R,
     alloc: Global,
     exchange: &mut E,
@@ -76,7 +77,7 @@ fn take_turn<R: Threads + Sync, E: Exchange, G: Gate>(
 }
 
 /// Answers a request that was taken.
-fn answer<R: Threads + Sync, E: Exchange, G: Gate>(
+fn answer<R: Threads + Sync, E: Exchange, G: Gate + Watcher>(
     rt: &R,
     alloc: Global,
     exchange: &mut E,

@@ -6,7 +6,7 @@ ghost use Rattle.tl_branch.specs.Learn.{IsLearnOutcome};
 use crate::learning::Learning;
 use std::alloc::{AllocError, Global};
 use tl_problem::Problem;
-use tl_solve::{Outcome, Solver};
+use tl_solve::{Outcome, Solver, Watch, Watcher};
 
 /// Cuts zones in the order of their classes, the lower part of a cut before the upper. Each cut is of the
 /// first span of more than one class, after the first of its classes. Each closed zone leaves a line whose
@@ -30,7 +30,12 @@ impl Solver for Learn {
 
     ghost besides = { λ _ problem _ outcome. IsLearnOutcome problem outcome };
 
-    fn solve(&mut self, problem: &Problem, budget: u32) -> Result<Outcome, AllocError> {
+    fn solve<W: Watcher>(
+        &mut self,
+        problem: &Problem,
+        budget: u32,
+        watch: &Watch<'_, W>,
+    ) -> Result<Outcome, AllocError> {
         let mut learning = Learning::begin(self.alloc, problem, budget)?;
         let mut stack: Vec<u32> = Vec::new(self.alloc);
         stack.push(0)?;
@@ -45,6 +50,7 @@ impl Solver for Learn {
                     return learning.finish(problem);
                 }
                 learning.cut(problem, cut)?;
+                learning.arena.show(problem, watch);
                 stack.push(2 * made + 2)?;
                 stack.push(2 * made + 1)?;
             }

@@ -11,7 +11,7 @@ use std::test::Fail;
 use tl_base::{Breaking, Gate, MAX_FILE_BYTES, NoGate};
 use tl_fan::Run;
 use tl_nested::Make;
-use tl_solve::Plain;
+use tl_solve::{Plain, Progress, Watcher};
 use tl_table::{Table, formed_has_few_cells, table};
 use tl_token::tokens;
 use tl_tree::tree;
@@ -126,6 +126,14 @@ impl Gate for Meeting {
             self.met[own].add(1);
         }
     }
+}
+
+impl Watcher for Meeting {
+    fn wants(&self, _before: u32, _cuts: u32) -> bool {
+        false
+    }
+
+    fn see(&self, _progress: Progress) {}
 }
 
 /// The table of a file, or why it has none.

@@ -12,6 +12,7 @@ use tl_base::{Gate, Style};
 use tl_cert::Section;
 use tl_fan::Run;
 use tl_nested::sections;
+use tl_solve::{Progress, Watcher};
 use tl_table::least_width;
 
 /// A gate that writes down when the pieces 0 to 3 come, from 1 on.
@@ -29,6 +30,14 @@ impl Gate for Arrivals {
     }
 }
 
+impl Watcher for Arrivals {
+    fn wants(&self, _before: u32, _cuts: u32) -> bool {
+        false
+    }
+
+    fn see(&self, _progress: Progress) {}
+}
+
 /// A section as text: its table, width, height and lower bound, and the widths of its columns, as
 /// `1 12 2 2: 3 5;`.
 fn push_section(alloc: Global, line: &mut String, section: &Section) -> Result<(), AllocError> {
@@ -42,7 +51,7 @@ fn push_section(alloc: Global, line: &mut String, section: &Section) -> Result<(
 }
 
 /// The sections of a file on a page in style plain, as text. Each is searched once.
-fn sections_of<R: Abort + Threads + Sync, G: Gate>(
+fn sections_of<R: Abort + Threads + Sync, G: Gate + Watcher>(
     run: &Run<'_, R, G>,
     file: &str,
     width: u32,

@@ -36,13 +36,14 @@ use tl_narrow::{certificate_of, narrow_certificate};
 use tl_nested::LaidSections;
 use tl_page::page;
 use tl_problem::Placed;
+use tl_solve::Watcher;
 use tl_table::{Layout, Table};
 
 /// Lays out the table that the bytes are, and answers with the lowest page that the search finds, with a bound
 /// where it may not be the lowest, with the least width where no page so narrow holds the table, or with why the
 /// bytes are refused. What workers search at one time passes the gate, piece by piece, once before it begins.
 /// The error says that memory ran out.
-pub fn lay<R: Threads + Sync, G: Gate>(
+pub fn lay<R: Threads + Sync, G: Gate + Watcher>(
     rt: &R,
     alloc: Global,
     task: &Task,
@@ -61,7 +62,7 @@ pub fn lay<R: Threads + Sync, G: Gate>(
 }
 
 /// What the table that is given is answered with, by the task.
-pub fn answer_to<R: Threads + Sync, G: Gate>(
+pub fn answer_to<R: Threads + Sync, G: Gate + Watcher>(
     run: &Run<'_, R, G>,
     task: &Task,
     given: &Given,
@@ -101,7 +102,7 @@ fn too_narrow(
 }
 
 /// The lowest page that the search finds, with its certificate.
-fn lowest<R: Threads + Sync, G: Gate>(
+fn lowest<R: Threads + Sync, G: Gate + Watcher>(
     run: &Run<'_, R, G>,
     task: &Task,
     subject: &Subject<'_>,
@@ -130,7 +131,7 @@ pub struct FoundPage {
 
 /// The certificate of the sections that the search finds on the page, with the placement of the last. The
 /// subject is that of the task's style and width.
-pub fn found<R: Threads + Sync, G: Gate>(
+pub fn found<R: Threads + Sync, G: Gate + Watcher>(
     run: &Run<'_, R, G>,
     task: &Task,
     subject: &Subject<'_>,
@@ -154,7 +155,7 @@ pub fn found<R: Threads + Sync, G: Gate>(
 
 /// The page of the layout that the certificate of a search names, with the certificate. The placement of
 /// its last section is the one that the search found.
-pub fn laid<R: Threads + Sync, G: Gate>(
+pub fn laid<R: Threads + Sync, G: Gate + Watcher>(
     run: &Run<'_, R, G>,
     task: &Task,
     table: &Table,
@@ -215,7 +216,7 @@ fn answer_of(
 
 /// The page of the table in the layout, and the text of the certificate, where it is asked for. Two workers
 /// write them at one time.
-fn files<R: Threads + Sync, G: Gate>(
+fn files<R: Threads + Sync, G: Gate + Watcher>(
     run: &Run<'_, R, G>,
     task: &Task,
     table: &Table,

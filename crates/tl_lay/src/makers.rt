@@ -28,7 +28,7 @@ use tl_narrow::{Aim, Slim, slimmest};
 use tl_nested::{LaidSections, Make, laid_sections};
 use tl_problem::{Problem, Zone};
 use tl_rounds::{Rounds, pieces_at_once};
-use tl_solve::{Outcome, Piece, Plain, Solver};
+use tl_solve::{Outcome, Piece, Plain, Solver, Watch, Watcher};
 
 /// A search of the kind that is named: a new one for each problem. All zones of a round are searched by one call
 /// of `fan`.
@@ -46,13 +46,18 @@ impl<'f, F: Fn(&Problem, &[Zone], u32, u32) -> Result<Vec<Piece>, AllocError> + 
 
     ghost besides = { λ named problem budget outcome. IsOutcomeOf named.search named.workers budget problem outcome };
 
-    fn solve(&mut self, problem: &Problem, budget: u32) -> Result<Outcome, AllocError> {
+    fn solve<W: Watcher>(
+        &mut self,
+        problem: &Problem,
+        budget: u32,
+        watch: &Watch<'_, W>,
+    ) -> Result<Outcome, AllocError> {
         match self.search {
-            Search::Plain => Plain::new(self.alloc).solve(problem, budget),
-            Search::Best => Best::new(self.alloc).solve(problem, budget),
-            Search::Learn => Learn::new(self.alloc).solve(problem, budget),
+            Search::Plain => Plain::new(self.alloc).solve(problem, budget, watch),
+            Search::Best => Best::new(self.alloc).solve(problem, budget, watch),
+            Search::Learn => Learn::new(self.alloc).solve(problem, budget, watch),
             Search::Rounds => {
-                Rounds::new(self.alloc, self.workers, self.fan).solve(problem, budget)
+                Rounds::new(self.alloc, self.workers, self.fan).solve(problem, budget, watch)
             }
         }
     }
@@ -86,7 +91,7 @@ impl<'f, F: Fn(&Problem, &[Zone], u32, u32) -> Result<Vec<Piece>, AllocError> + 
 
 /// All sections of a certificate of the subject's table, by the search that is named, with the placement that
 /// was found for the last of them.
-pub fn searched<R: Threads + Sync, G: Gate>(
+pub fn searched<R: Threads + Sync, G: Gate + Watcher>(
     run: &Run<'_, R, G>,
     task: &Task,
     subject: &Subject<'_>,
@@ -115,7 +120,7 @@ pub fn searched<R: Threads + Sync, G: Gate>(
 /// The same, where each round is searched by a call of `fan`.
 fn searched_with<
     R: Threads + Sync,
-    G: Gate,
+    G: Gate + Watcher,
     F: Fn(&Problem, &[Zone], u32, u32) -> Result<Vec<Piece>, AllocError> + Sync,
 >(
     run: &Run<'_, R, G>,
@@ -145,7 +150,7 @@ fn searched_with<
 
 /// Between which widths the narrowest page of at most `height` lines is, among those of up to as many columns
 /// as the task allows, by the search that is named. Of the widest one a certificate may be handed in.
-pub fn slimmest_by<R: Threads + Sync, G: Gate>(
+pub fn slimmest_by<R: Threads + Sync, G: Gate + Watcher>(
     run: &Run<'_, R, G>,
     task: &Task,
     given: &Given,
@@ -170,7 +175,7 @@ pub fn slimmest_by<R: Threads + Sync, G: Gate>(
 /// The same, where each round is searched by a call of `fan`.
 fn slimmest_with<
     R: Threads + Sync,
-    G: Gate,
+    G: Gate + Watcher,
     F: Fn(&Problem, &[Zone], u32, u32) -> Result<Vec<Piece>, AllocError> + Sync,
 >(
     run: &Run<'_, R, G>,

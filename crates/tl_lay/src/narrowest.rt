@@ -22,13 +22,14 @@ use tl_cert::Certificate;
 use tl_fan::Run;
 use tl_form::layout;
 use tl_narrow::Slim;
+use tl_solve::Watcher;
 
 /// Looks for the narrowest page, of those of up to as many columns as the task has, that holds the table that
 /// the bytes are in at most `height` lines, up to `MAX_HEIGHT`. It answers with that page, with the least width
 /// that is known where the search ended early, that there is none, or with why the bytes are refused. What
 /// workers search at one time passes the gate, piece by piece, once before it begins. The error says that memory
 /// ran out.
-pub fn narrow<R: Threads + Sync, G: Gate>(
+pub fn narrow<R: Threads + Sync, G: Gate + Watcher>(
     rt: &R,
     alloc: Global,
     task: &Task,
@@ -49,7 +50,7 @@ pub fn narrow<R: Threads + Sync, G: Gate>(
 }
 
 /// Searches, and makes the page and the texts of what was found.
-fn slimmed<R: Threads + Sync, G: Gate>(
+fn slimmed<R: Threads + Sync, G: Gate + Watcher>(
     run: &Run<'_, R, G>,
     task: &Task,
     given: &Given,

@@ -27,6 +27,7 @@ use tl_form::{Due, Subject};
 use tl_narrow::certificate_of;
 use tl_nested::{LaidSections, problem_at};
 use tl_read::{Source, read};
+use tl_solve::Watcher;
 use tl_table::Table;
 use tl_verify::verify;
 
@@ -77,7 +78,7 @@ fn count_after(alloc: Global, table: &Table, before: &[Section]) -> Result<u64, 
 }
 
 /// The numbers of a table that is laid out on the page of a demonstration.
-fn summary_of<R: Threads + Sync, G: Gate>(
+fn summary_of<R: Threads + Sync, G: Gate + Watcher>(
     run: &Run<'_, R, G>,
     table: &Table,
 ) -> Result<Summary, AllocError>
@@ -119,7 +120,7 @@ fn summary_of<R: Threads + Sync, G: Gate>(
 }
 
 /// Lays out the table of this number, checks its certificate, and gives its numbers.
-pub fn demonstrate<R: Threads + Sync, G: Gate>(
+pub fn demonstrate<R: Threads + Sync, G: Gate + Watcher>(
     rt: &R,
     alloc: Global,
     number: u32,

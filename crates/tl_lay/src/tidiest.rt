@@ -27,6 +27,7 @@ use tl_cert::{Certificate, Claim};
 use tl_fan::Run;
 use tl_form::{Subject, lay};
 use tl_narrow::Slim;
+use tl_solve::Watcher;
 use tl_table::least_width;
 use tl_tidy::{Choice, choose, steps_agree};
 
@@ -61,7 +62,7 @@ impl Drop for TidyEnd {
 /// left open, with the least width where no page so narrow holds the table, or with why the bytes are refused.
 /// What workers search at one time passes the gate, piece by piece, once before it begins. The error says that
 /// memory ran out.
-pub fn tidy<R: Threads + Sync, G: Gate>(
+pub fn tidy<R: Threads + Sync, G: Gate + Watcher>(
     rt: &R,
     alloc: Global,
     task: &Task,
@@ -80,7 +81,7 @@ pub fn tidy<R: Threads + Sync, G: Gate>(
 }
 
 /// Searches at the width of the page, if it is not too narrow, and trims the lowest page where that is found.
-fn tidied<R: Threads + Sync, G: Gate>(
+fn tidied<R: Threads + Sync, G: Gate + Watcher>(
     run: &Run<'_, R, G>,
     task: &Task,
     given: &Given,
@@ -96,7 +97,7 @@ fn tidied<R: Threads + Sync, G: Gate>(
 }
 
 /// Searches at the width of the page, and trims the lowest page where that is found.
-fn tidied_on<R: Threads + Sync, G: Gate>(
+fn tidied_on<R: Threads + Sync, G: Gate + Watcher>(
     run: &Run<'_, R, G>,
     task: &Task,
     given: &Given,
@@ -120,7 +121,7 @@ fn tidied_on<R: Threads + Sync, G: Gate>(
 }
 
 /// Looks for the narrowest page that is as low as the certificate shows, and chooses among its layouts.
-fn trimmed<R: Threads + Sync, G: Gate>(
+fn trimmed<R: Threads + Sync, G: Gate + Watcher>(
     run: &Run<'_, R, G>,
     task: &Task,
     given: &Given,

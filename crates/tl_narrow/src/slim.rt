@@ -17,6 +17,7 @@ use tl_base::Gate;
 use tl_cert::Certificate;
 use tl_fan::Run;
 use tl_nested::Make;
+use tl_solve::Watcher;
 use tl_table::Table;
 
 /// Between which widths the narrowest page lies on which a table is low enough, and what shows it. Where
@@ -56,7 +57,7 @@ impl Drop for Slim {
 /// high no page is low enough; a trial that tells neither ends the search. There are at most ten trials, and the
 /// sections of one are given up before the next, but for those of the certificates that are answered. The
 /// error is out of memory.
-pub fn slimmest<R: Threads + Sync, M: Make, G: Gate>(
+pub fn slimmest<R: Threads + Sync, M: Make, G: Gate + Watcher>(
     run: &Run<'_, R, G>,
     table: &Table,
     aim: Aim,

@@ -25,6 +25,7 @@ use tl_form::{
     Subject, all_counts_rise, bounded_is_between, budget_closes, counts_exist, open_spends,
 };
 use tl_nested::{Make, sections};
+use tl_solve::Watcher;
 use tl_table::Table;
 
 /// What a trial tells of the width that was tried.
@@ -145,7 +146,7 @@ pub fn begin(
 }
 
 /// The certificate of a search on a page of `width` columns.
-pub fn tried<R: Threads + Sync, M: Make, G: Gate>(
+pub fn tried<R: Threads + Sync, M: Make, G: Gate + Watcher>(
     run: &Run<'_, R, G>,
     table: &Table,
     style: Style,

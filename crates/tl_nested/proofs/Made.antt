@@ -98,14 +98,14 @@ module _ (subject : Subject) (is : IsSubject subject) (fits : IsWideEnough subje
 
 -- ---- a call
 
-pub solved_by : {F : Type 0} (g : Shared F (Bor ProblemModel × (ℕ × Unit {0})) (Result Outcome AllocError)) (f : F)
+pub solved_by : {F : Type 0} (g : Shared F (Bor ProblemModel × (ℕ × (ℕ × Unit {0}))) (Result Outcome AllocError)) (f : F)
     (p : Bor ProblemModel)
-    (budget : ℕ) (result : Result Outcome AllocError) (outcome : Outcome) → SolvesEach g f budget →
+    (table budget : ℕ) (result : Result Outcome AllocError) (outcome : Outcome) → SolvesEach g f budget →
     problem_sound.IsSound p.now → result ≡ Ok outcome →
-    g.post f (p, (budget, tt)) result → IsSolverOutcome p.now budget outcome × GivesOutcome g f budget p.now outcome
-solved_by g f p budget result outcome solves sound is post =
-    let call = subst (λ r. g.post f (p, (budget, tt)) r) is post in
-    (solves p outcome sound call, record { argument = p; argument_is = refl; call = call })
+    g.post f (p, (table, (budget, tt))) result → IsSolverOutcome p.now budget outcome × GivesOutcome g f budget p.now outcome
+solved_by g f p table budget result outcome solves sound is post =
+    let call = subst (λ r. g.post f (p, (table, (budget, tt))) r) is post in
+    (solves p table outcome sound call, record { argument = p; argument_is = refl; table = table; call = call })
 
 -- ---- one more section
 

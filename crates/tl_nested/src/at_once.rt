@@ -51,7 +51,7 @@ fn with_more(first: List<Section>, second: List<Section>) -> Result<List<Section
 fn group_sections<
     R: Threads + Sync,
     G: Gate,
-    F: Fn(&Problem, u32) -> Result<Outcome, AllocError> + Sync,
+    F: Fn(&Problem, u32, u32) -> Result<Outcome, AllocError> + Sync,
 >(
     run: &Run<'_, R, G>,
     subject: &Subject,
@@ -95,7 +95,7 @@ fn sorted(found: List<Section>) -> Result<List<Section>, AllocError>
 pub fn nested_sections<
     R: Threads + Sync,
     G: Gate,
-    F: Fn(&Problem, u32) -> Result<Outcome, AllocError> + Sync,
+    F: Fn(&Problem, u32, u32) -> Result<Outcome, AllocError> + Sync,
 >(
     run: &Run<'_, R, G>,
     subject: &Subject,

@@ -51,7 +51,7 @@ fn found_of(alloc: Global, due: Due, outcome: Outcome) -> Result<Found, AllocErr
 }
 
 /// Searches the section that is due, on the sections before it.
-pub fn search<F: Fn(&Problem, u32) -> Result<Outcome, AllocError>>(
+pub fn search<F: Fn(&Problem, u32, u32) -> Result<Outcome, AllocError>>(
     alloc: Global,
     subject: &Subject,
     due: Due,
@@ -74,12 +74,12 @@ pub fn search<F: Fn(&Problem, u32) -> Result<Outcome, AllocError>>(
 {
     sections_give_sound_problems();
     let problem = problem_at(alloc, subject, due, before)?;
-    let outcome = solve(&problem, budget)?;
+    let outcome = solve(&problem, due.table, budget)?;
     found_of(alloc, due, outcome)
 }
 
 /// Searches a table at a width, on the sections that are told. `None` where they make no sound problem of it.
-fn search_on<F: Fn(&Problem, u32) -> Result<Outcome, AllocError>>(
+fn search_on<F: Fn(&Problem, u32, u32) -> Result<Outcome, AllocError>>(
     alloc: Global,
     subject: &Subject,
     due: Due,
@@ -103,7 +103,7 @@ fn search_on<F: Fn(&Problem, u32) -> Result<Outcome, AllocError>>(
     let Some(problem) = problem_for(alloc, table, subject.style, due.width, told)? else {
         return Ok(None);
     };
-    let outcome = solve(&problem, budget)?;
+    let outcome = solve(&problem, due.table, budget)?;
     Ok(Some(found_of(alloc, due, outcome)?))
 }
 
@@ -121,7 +121,7 @@ fn narrower(placed: u32, least: u32) -> Option<u32>
 /// The sections of a nested table, on the sections that are told: one on the whole page, and then one a
 /// column narrower than the placement before, as long as the table has a layout there. They end early
 /// where what is told makes no sound problem.
-pub fn table_sections<F: Fn(&Problem, u32) -> Result<Outcome, AllocError>>(
+pub fn table_sections<F: Fn(&Problem, u32, u32) -> Result<Outcome, AllocError>>(
     alloc: Global,
     subject: &Subject,
     number: u32,

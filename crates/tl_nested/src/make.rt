@@ -19,7 +19,7 @@ use tl_cert::Section;
 use tl_fan::Run;
 use tl_form::Subject;
 use tl_problem::Problem;
-use tl_solve::{Outcome, Solver};
+use tl_solve::{Outcome, Solver, Watch, Watcher};
 use tl_table::Table;
 
 /// Makes solvers. A maker has two meanings of its own: `can_make`, when it may be called, and `besides`,
@@ -43,7 +43,7 @@ pub trait Make: Sync {
 /// All sections of a certificate of the table on a page of `width` columns, each by a solver of its own. As
 /// many workers as the run has search nested tables of one depth at one time, each table behind the gate by its
 /// number; the sections are those of a certificate for every number of workers. The error is out of memory.
-pub fn sections<R: Threads + Sync, M: Make, G: Gate>(
+pub fn sections<R: Threads + Sync, M: Make, G: Gate + Watcher>(
     run: &Run<'_, R, G>,
     table: &Table,
     style: Style,
@@ -70,7 +70,7 @@ pub fn sections<R: Threads + Sync, M: Make, G: Gate>(
 
 /// The sections of a subject, which `sections` makes of its table, with the placement that was found for the
 /// last of them. The error is out of memory.
-pub fn laid_sections<R: Threads + Sync, M: Make, G: Gate>(
+pub fn laid_sections<R: Threads + Sync, M: Make, G: Gate + Watcher>(
     run: &Run<'_, R, G>,
     subject: &Subject,
     budget: u32,
@@ -86,10 +86,16 @@ pub fn laid_sections<R: Threads + Sync, M: Make, G: Gate>(
     ensures placed { IfOk result (λ laid. IsLastPlacement subject.now.table.now subject.now.style subject.now.page
         laid.sections laid.placed) }
 {
-    let solve = |problem: &Problem, budget: u32| -> Result<Outcome, AllocError>
+    let solve = |problem: &Problem, table: u32, budget: u32| -> Result<Outcome, AllocError>
         requires { M.can_make maker.now × (budget ≤ MAX_BUDGET) }
         ensures solved { IfOk result (IsSolverOutcome problem.now budget) }
         ensures besides { IfOk result (λ outcome. M.besides maker.entry.now problem.now budget outcome) }
-    { maker.make(run.alloc)?.solve(problem, budget) };
+    {
+        let watch = Watch {
+            watcher: run.gate,
+            table,
+        };
+        maker.make(run.alloc)?.solve(problem, budget, &watch)
+    };
     sections_by(run, subject, budget, &solve)
 }

@@ -65,7 +65,7 @@ pub struct LaidSections {
 pub fn sections_by<
     R: Threads + Sync,
     G: Gate,
-    F: Fn(&Problem, u32) -> Result<Outcome, AllocError> + Sync,
+    F: Fn(&Problem, u32, u32) -> Result<Outcome, AllocError> + Sync,
 >(
     run: &Run<'_, R, G>,
     subject: &Subject,

@@ -38,11 +38,12 @@ use tl_lay::{
     demonstrate, laid_is_lowest, lay, narrow, narrowed_is_narrowest, tidied_is_tidiest, tidy,
 };
 use tl_narrow::met_is_slimmest;
+use tl_solve::Watcher;
 
 /// Carries out the arguments of the command line over the desk, and returns the exit status; where memory
 /// runs out that is 9. What workers search or judge at one time passes the gate, piece by piece, once before it
 /// begins.
-pub fn run<R: Threads + Sync, D: Desk, G: Gate>(
+pub fn run<R: Threads + Sync, D: Desk, G: Gate + Watcher>(
     rt: &R,
     alloc: Global,
     words: &[String],
@@ -78,7 +79,7 @@ pub fn run<R: Threads + Sync, D: Desk, G: Gate>(
 }
 
 /// Carries out the command that the arguments ask for.
-fn carry_out<R: Threads + Sync, D: Desk, G: Gate>(
+fn carry_out<R: Threads + Sync, D: Desk, G: Gate + Watcher>(
     rt: &R,
     alloc: Global,
     words: &[String],
@@ -102,7 +103,7 @@ fn carry_out<R: Threads + Sync, D: Desk, G: Gate>(
 }
 
 /// Lays out the table of the file.
-fn lay_file<R: Threads + Sync, D: Desk, G: Gate>(
+fn lay_file<R: Threads + Sync, D: Desk, G: Gate + Watcher>(
     rt: &R,
     alloc: Global,
     ask: &Ask<'_>,
@@ -131,7 +132,7 @@ fn lay_file<R: Threads + Sync, D: Desk, G: Gate>(
 }
 
 /// Looks for the narrowest page of the table of the file that has at most so many lines.
-fn narrow_file<R: Threads + Sync, D: Desk, G: Gate>(
+fn narrow_file<R: Threads + Sync, D: Desk, G: Gate + Watcher>(
     rt: &R,
     alloc: Global,
     ask: &Ask<'_>,
@@ -161,7 +162,7 @@ fn narrow_file<R: Threads + Sync, D: Desk, G: Gate>(
 }
 
 /// Lays out the table of the file as low and then as narrow as can be.
-fn tidy_file<R: Threads + Sync, D: Desk, G: Gate>(
+fn tidy_file<R: Threads + Sync, D: Desk, G: Gate + Watcher>(
     rt: &R,
     alloc: Global,
     ask: &Ask<'_>,
@@ -190,7 +191,7 @@ fn tidy_file<R: Threads + Sync, D: Desk, G: Gate>(
 }
 
 /// Judges the certificate of the table of the file.
-fn check_file<R: Threads + Sync, D: Desk, G: Gate>(
+fn check_file<R: Threads + Sync, D: Desk, G: Gate + Watcher>(
     rt: &R,
     alloc: Global,
     ask: &Ask<'_>,
@@ -241,7 +242,7 @@ fn load_input<D: Desk>(alloc: Global, ask: &Ask<'_>, desk: &mut D) -> Result<Lis
 }
 
 /// Lays out the table of this number, checks its certificate, and prints its numbers.
-fn demonstrate_table<R: Threads + Sync, D: Desk, G: Gate>(
+fn demonstrate_table<R: Threads + Sync, D: Desk, G: Gate + Watcher>(
     rt: &R,
     alloc: Global,
     ask: &Ask<'_>,

@@ -18,7 +18,7 @@ use std::alloc::{AllocError, Global};
 use tl_base::List;
 use tl_cert::Trace;
 use tl_problem::{Placed, Problem, Zone};
-use tl_solve::{Outcome, Piece, trace_outcome, zones_of_trace};
+use tl_solve::{Outcome, Piece, Watch, Watcher, trace_lower, trace_outcome, zones_of_trace};
 
 /// What a search of one problem in pieces keeps: the cuts of all pieces that were taken in, the zones that
 /// are left, and the best placement. Zone 0 is the whole; cut `i`, counted from 0, makes the zones `2i + 1`
@@ -157,6 +157,31 @@ impl<'a> Book<'a> {
         self.lefts = left;
         lower(&mut self.best, best);
         Ok(())
+    }
+
+    /// The least of the best height and of the bounds of the zones that stand and have widths, in lines. It takes
+    /// the time of a bound for each zone.
+    pub fn lower(&self) -> Result<u32, AllocError>
+        requires { IsBook self.now }
+        ensures { IfOk result (IsLeastStanding (problem_of self.now) self.now.trace self.now.best.height) }
+    {
+        // The cells come with the fact that the problem is sound.
+        let _cells = self.problem.cells();
+        trace_lower(self.alloc, self.problem, &self.trace, self.best.height)
+    }
+
+    /// Lets a watcher see the search after a round, if it wants to; it had `before` cuts then. Where memory for that
+    /// runs out it sees nothing.
+    pub(crate) fn show<W: Watcher>(&self, before: u32, watch: &Watch<'_, W>)
+        requires { IsBook self.now }
+    {
+        let cuts = self.cuts();
+        if !watch.wants(before, cuts) {
+            return;
+        }
+        if let Ok(lower) = self.lower() {
+            watch.see(cuts, self.best.height, lower);
+        }
     }
 
     /// The outcome of the search: the best placement and the cuts. Its lower bound is the least of the best

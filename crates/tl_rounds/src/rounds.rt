@@ -15,7 +15,7 @@ ghost use Rattle.tl_rounds.specs.inner.Takings.{IsRoundTaken, IsTakenSoFar};
 use crate::Book;
 use std::alloc::{AllocError, Global};
 use tl_problem::{Problem, Zone};
-use tl_solve::{Outcome, Piece, Solver};
+use tl_solve::{Outcome, Piece, Solver, Watch, Watcher};
 
 /// A search in rounds. In each round the first zones that are left are searched at once, one for each worker,
 /// and what is found is taken into a book after all have ended. It ends where no zone is left, or no cut.
@@ -48,10 +48,17 @@ impl<'f, F: Fn(&Problem, &[Zone], u32, u32) -> Result<Vec<Piece>, AllocError> + 
 
     ghost besides = { λ rounds problem budget outcome. IsRoundsOutcome rounds.workers problem budget outcome };
 
-    fn solve(&mut self, problem: &Problem, budget: u32) -> Result<Outcome, AllocError> {
+    fn solve<W: Watcher>(
+        &mut self,
+        problem: &Problem,
+        budget: u32,
+        watch: &Watch<'_, W>,
+    ) -> Result<Outcome, AllocError> {
         let mut book = Book::open(self.alloc, problem)?;
         while goes_on(&book, budget) {
+            let before = book.cuts();
             take_round(self.fan, self.workers, budget, &mut book)?;
+            book.show(before, watch);
         }
         let found = book.finish()?;
         Ok(found)

@@ -1,8 +1,8 @@
 //! The best-first search, on problems counted by hand and on tables that were drawn at random.
 
 use crate::problems::{
-    Size, add, cell, config, cut_at, drawn_table, found, is_line, numbers, problem, share,
-    thirty_rows, two_cells, two_rows,
+    Size, UNWATCHED, add, cell, config, cut_at, drawn_table, found, is_line, numbers, problem,
+    share, thirty_rows, two_cells, two_rows,
 };
 use std::alloc::Global;
 use std::test::Fail;
@@ -24,7 +24,7 @@ fn two_rows_close_with_one_cut(rt: HostRuntime) -> Result<(), Fail> {
     let problem = two_rows(rt.alloc())?;
     let mut best = Best::new(rt.alloc());
     for budget in [1u32, 16] {
-        let outcome = best.solve(&problem, budget)?;
+        let outcome = best.solve(&problem, budget, &UNWATCHED)?;
         let trace = outcome.trace.as_slice();
         assert_eq!(rt;
             (numbers(&outcome), outcome.best.width, trace),
@@ -37,7 +37,7 @@ fn two_rows_close_with_one_cut(rt: HostRuntime) -> Result<(), Fail> {
 #[test]
 fn two_cells_show_the_opening_without_cuts(rt: HostRuntime) -> Result<(), Fail> {
     let problem = two_cells(rt.alloc(), 12)?;
-    let outcome = Best::new(rt.alloc()).solve(&problem, 0)?;
+    let outcome = Best::new(rt.alloc()).solve(&problem, 0, &UNWATCHED)?;
     assert_eq!(rt; found(&outcome), ((3, 2, 0), [3u32, 2].as_slice(), 1));
     Ok(())
 }
@@ -48,7 +48,7 @@ fn two_cells_that_fit_the_bound_close_without_a_cut(rt: HostRuntime) -> Result<(
     let problem = two_cells(rt.alloc(), 12)?;
     let mut best = Best::new(rt.alloc());
     for budget in [1u32, 6] {
-        let outcome = best.solve(&problem, budget)?;
+        let outcome = best.solve(&problem, budget, &UNWATCHED)?;
         assert_eq!(rt; found(&outcome), ((2, 2, 0), [3u32, 5].as_slice(), 1));
     }
     Ok(())
@@ -57,7 +57,7 @@ fn two_cells_that_fit_the_bound_close_without_a_cut(rt: HostRuntime) -> Result<(
 #[test]
 fn two_cells_need_three_lines_on_nine_columns(rt: HostRuntime) -> Result<(), Fail> {
     let problem = two_cells(rt.alloc(), 9)?;
-    let outcome = Best::new(rt.alloc()).solve(&problem, 100)?;
+    let outcome = Best::new(rt.alloc()).solve(&problem, 100, &UNWATCHED)?;
     let (height, lower, _) = numbers(&outcome);
     assert_eq!(rt; (height, lower, outcome.best.width), (3, 3, 7));
     Ok(())
@@ -77,7 +77,7 @@ fn two_pairs(alloc: Global, low: &[Config], high: &[Config]) -> Result<Problem, 
 fn an_area_bound_closes_two_pairs_without_cuts(rt: HostRuntime) -> Result<(), Fail> {
     let pair = [config(1, 2), config(3, 1)];
     let problem = two_pairs(rt.alloc(), &pair, &pair)?;
-    let outcome = Best::new(rt.alloc()).solve(&problem, 0)?;
+    let outcome = Best::new(rt.alloc()).solve(&problem, 0, &UNWATCHED)?;
     assert_eq!(rt;
         (
             found(&outcome),
@@ -94,7 +94,7 @@ fn an_area_bound_closes_two_pairs_without_cuts(rt: HostRuntime) -> Result<(), Fa
 fn a_zone_that_its_area_bound_closes_is_not_cut(rt: HostRuntime) -> Result<(), Fail> {
     let pair = [config(1, 2), config(3, 1)];
     let problem = two_pairs(rt.alloc(), &pair, &pair)?;
-    let outcome = Best::new(rt.alloc()).solve(&problem, 100)?;
+    let outcome = Best::new(rt.alloc()).solve(&problem, 100, &UNWATCHED)?;
     assert_eq!(rt; numbers(&outcome), (2, 2, 0));
     Ok(())
 }
@@ -108,7 +108,7 @@ fn a_zone_is_cut_for_all_its_area_bound_where_low_is_not_high(rt: HostRuntime) -
     let problem = two_pairs(rt.alloc(), &low, &high)?;
     let mut best = Best::new(rt.alloc());
     for budget in [0u32, MAX_BUDGET] {
-        let outcome = best.solve(&problem, budget)?;
+        let outcome = best.solve(&problem, budget, &UNWATCHED)?;
         let (height, lower, cuts) = numbers(&outcome);
         assert_eq!(rt; (height, lower, cuts > 0), (2, 2, budget > 0));
     }
@@ -124,7 +124,7 @@ fn a_zone_is_cut_for_all_its_area_bound_where_steps_differ_past_the_page(
     let low = [config(1, 2), config(3, 1), config(9, 0)];
     let high = [config(1, 2), config(3, 1)];
     let problem = two_pairs(rt.alloc(), &low, &high)?;
-    let outcome = Best::new(rt.alloc()).solve(&problem, MAX_BUDGET)?;
+    let outcome = Best::new(rt.alloc()).solve(&problem, MAX_BUDGET, &UNWATCHED)?;
     let (height, lower, cuts) = numbers(&outcome);
     assert_eq!(rt; (height, lower, cuts > 0), (2, 2, true));
     Ok(())
@@ -137,7 +137,7 @@ fn a_gap_between_low_and_high_stays_open(rt: HostRuntime) -> Result<(), Fail> {
     let mut cells = List::new(alloc);
     cells.push(cell(alloc, (0, 1), 0, &[config(3, 1)], &[config(3, 2)])?)?;
     let problem = problem(alloc, 1, 1, 10, cells)?;
-    let outcome = Best::new(alloc).solve(&problem, MAX_BUDGET)?;
+    let outcome = Best::new(alloc).solve(&problem, MAX_BUDGET, &UNWATCHED)?;
     assert_eq!(rt; numbers(&outcome), (2, 1, 0));
     Ok(())
 }
@@ -145,7 +145,7 @@ fn a_gap_between_low_and_high_stays_open(rt: HostRuntime) -> Result<(), Fail> {
 #[test]
 fn a_problem_without_columns_has_height_0(rt: HostRuntime) -> Result<(), Fail> {
     let problem = problem(rt.alloc(), 0, 0, 10, List::new(rt.alloc()))?;
-    let outcome = Best::new(rt.alloc()).solve(&problem, 5)?;
+    let outcome = Best::new(rt.alloc()).solve(&problem, 5, &UNWATCHED)?;
     assert_eq!(rt; (numbers(&outcome), outcome.log.len()), ((0, 0, 0), 1));
     Ok(())
 }
@@ -171,7 +171,7 @@ fn twenty_drawn_tables_close(rt: HostRuntime) -> Result<(), Fail> {
     let mut best = Best::new(rt.alloc());
     for number in 0..20u32 {
         let problem = drawn_table(rt.alloc(), number, thirty_rows(6), 60)?;
-        let outcome = best.solve(&problem, 2_000)?;
+        let outcome = best.solve(&problem, 2_000, &UNWATCHED)?;
         let cuts = outcome.trace.len();
         assert_eq!(rt;
             (outcome.lower, outcome.log.len(), outcome.best.width <= 60),
@@ -192,7 +192,7 @@ fn prose_in_eight_columns_closes_after_some_cuts(rt: HostRuntime) -> Result<(), 
         more: 8,
     };
     let problem = drawn_table(rt.alloc(), 1, size, 110)?;
-    let outcome = Best::new(rt.alloc()).solve(&problem, 2_000)?;
+    let outcome = Best::new(rt.alloc()).solve(&problem, 2_000, &UNWATCHED)?;
     let (height, lower, cuts) = numbers(&outcome);
     let is_within = outcome.best.width <= 110 && 0 < cuts && cuts < 2_000;
     assert_eq!(rt; (lower, is_within), (height, true));

@@ -4,8 +4,8 @@ ghost use Rattle.std.specs.Prelude.{◌+◌, ◌<◌, ◌≤◌, ◌^◌};
 ghost use Rattle.tl_base.specs.declared.limits.TheConstants.{MAX_BUDGET};
 
 use crate::problems::{
-    at_least, at_most, cell, config, cut_at, diagonal, drawn_table, has_bounds, is_accepted,
-    numbers, problem, share, thirty_rows, two_cells, two_rows,
+    UNWATCHED, at_least, at_most, cell, config, cut_at, diagonal, drawn_table, has_bounds,
+    is_accepted, numbers, problem, share, thirty_rows, two_cells, two_rows,
 };
 use std::alloc::Global;
 use std::test::Fail;
@@ -45,7 +45,7 @@ struct Found {
 fn search(alloc: Global, learn: &mut Learn, problem: &Problem, budget: u32) -> Result<Found, Fail>
     requires { budget ≤ MAX_BUDGET }
 {
-    let outcome = learn.solve(problem, budget)?;
+    let outcome = learn.solve(problem, budget, &UNWATCHED)?;
     let (height, lower, cuts) = numbers(&outcome);
     let is_accepted = is_accepted(alloc, problem, &outcome)?;
     Ok(Found {
@@ -61,7 +61,7 @@ fn search(alloc: Global, learn: &mut Learn, problem: &Problem, budget: u32) -> R
 #[test]
 fn two_rows_close_after_three_cuts(rt: HostRuntime) -> Result<(), Fail> {
     let problem = two_rows(rt.alloc())?;
-    let outcome = Learn::new(rt.alloc()).solve(&problem, 3)?;
+    let outcome = Learn::new(rt.alloc()).solve(&problem, 3, &UNWATCHED)?;
     assert_eq!(rt; (numbers(&outcome), outcome.best.width), ((4, 4, 3), 16));
     assert_eq!(rt;
         outcome.trace.as_slice(),
@@ -97,7 +97,7 @@ fn two_rows_are_searched_with_each_budget(rt: HostRuntime) -> Result<(), Fail> {
 #[test]
 fn two_cells_are_open_without_cuts(rt: HostRuntime) -> Result<(), Fail> {
     let problem = two_cells(rt.alloc(), 12)?;
-    let outcome = Learn::new(rt.alloc()).solve(&problem, 0)?;
+    let outcome = Learn::new(rt.alloc()).solve(&problem, 0, &UNWATCHED)?;
     assert_eq!(rt;
         (numbers(&outcome), outcome.best.widths.as_slice()),
         ((3, 2, 0), [3u32, 2].as_slice())
@@ -109,7 +109,7 @@ fn two_cells_are_open_without_cuts(rt: HostRuntime) -> Result<(), Fail> {
 #[test]
 fn two_cells_are_closed_with_six_cuts(rt: HostRuntime) -> Result<(), Fail> {
     let problem = two_cells(rt.alloc(), 12)?;
-    let outcome = Learn::new(rt.alloc()).solve(&problem, 6)?;
+    let outcome = Learn::new(rt.alloc()).solve(&problem, 6, &UNWATCHED)?;
     assert_eq!(rt;
         (
             outcome.best.height,
@@ -125,7 +125,7 @@ fn two_cells_are_closed_with_six_cuts(rt: HostRuntime) -> Result<(), Fail> {
 #[test]
 fn two_cells_need_three_lines_on_nine_columns(rt: HostRuntime) -> Result<(), Fail> {
     let problem = two_cells(rt.alloc(), 9)?;
-    let outcome = Learn::new(rt.alloc()).solve(&problem, 100)?;
+    let outcome = Learn::new(rt.alloc()).solve(&problem, 100, &UNWATCHED)?;
     assert_eq!(rt;
         (outcome.best.height, outcome.lower, outcome.best.width),
         (3, 3, 7)
@@ -165,7 +165,7 @@ fn has_zone(log: &Log) -> bool {
 #[test]
 fn nine_bounds_stay_those_of_their_zone(rt: HostRuntime) -> Result<(), Fail> {
     let problem = diagonal(rt.alloc(), 10, 30)?;
-    let outcome = Learn::new(rt.alloc()).solve(&problem, 2_000)?;
+    let outcome = Learn::new(rt.alloc()).solve(&problem, 2_000, &UNWATCHED)?;
     assert_eq!(rt;
         (outcome.best.height, outcome.lower, has_zone(&outcome.log)),
         (19, 19, true)
@@ -178,7 +178,7 @@ fn nine_bounds_stay_those_of_their_zone(rt: HostRuntime) -> Result<(), Fail> {
 #[test]
 fn four_bounds_are_written_out(rt: HostRuntime) -> Result<(), Fail> {
     let problem = diagonal(rt.alloc(), 6, 20)?;
-    let outcome = Learn::new(rt.alloc()).solve(&problem, 64)?;
+    let outcome = Learn::new(rt.alloc()).solve(&problem, 64, &UNWATCHED)?;
     assert_eq!(rt;
         (outcome.best.height, outcome.lower, has_zone(&outcome.log)),
         (10, 10, false)
@@ -212,7 +212,7 @@ fn no_nogood_closes_a_zone_where_low_is_not_high(rt: HostRuntime) -> Result<(), 
 #[test]
 fn a_problem_without_columns_has_height_0(rt: HostRuntime) -> Result<(), Fail> {
     let problem = problem(rt.alloc(), 0, 0, 10, List::new(rt.alloc()))?;
-    let outcome = Learn::new(rt.alloc()).solve(&problem, 5)?;
+    let outcome = Learn::new(rt.alloc()).solve(&problem, 5, &UNWATCHED)?;
     assert_eq!(rt; (numbers(&outcome), outcome.log.len()), ((0, 0, 0), 1));
     Ok(())
 }
@@ -221,7 +221,7 @@ fn a_problem_without_columns_has_height_0(rt: HostRuntime) -> Result<(), Fail> {
 #[test]
 fn a_drawn_table_has_one_height_by_both_searches(rt: HostRuntime) -> Result<(), Fail> {
     let problem = drawn_table(rt.alloc(), 0, thirty_rows(6), 60)?;
-    let plain = Plain::new(rt.alloc()).solve(&problem, 2_000)?;
+    let plain = Plain::new(rt.alloc()).solve(&problem, 2_000, &UNWATCHED)?;
     let (height, lower, cuts) = numbers(&plain);
     let found = search(rt.alloc(), &mut Learn::new(rt.alloc()), &problem, 2_000)?;
     assert_eq!(rt;
@@ -241,7 +241,7 @@ fn a_drawn_table_has_one_height_by_both_searches(rt: HostRuntime) -> Result<(), 
 fn a_search_of_5000_cuts_spends_its_budget(rt: HostRuntime) -> Result<(), Fail> {
     let alloc = rt.alloc();
     let problem = drawn_table(alloc, 0, thirty_rows(8), 95)?;
-    let outcome = Learn::new(alloc).solve(&problem, 5_000)?;
+    let outcome = Learn::new(alloc).solve(&problem, 5_000, &UNWATCHED)?;
     assert_eq!(rt; outcome.trace.len(), 5_000);
     Ok(())
 }

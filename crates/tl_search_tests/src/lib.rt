@@ -19,3 +19,5 @@ mod problems;
 mod rounds;
 #[cfg(test)]
 mod stores;
+#[cfg(test)]
+mod watched;

@@ -1,8 +1,8 @@
 //! The plain search, what each search opens and ends with, and the log of a trace, on problems counted by hand.
 
 use crate::problems::{
-    cell, config, drawn_table, found, is_line, numbers, problem, share, thirty_rows, two_cells,
-    two_rows,
+    UNWATCHED, cell, config, drawn_table, found, is_line, numbers, problem, share, thirty_rows,
+    two_cells, two_rows,
 };
 use std::test::Fail;
 use tl_base::{List, MAX_BUDGET};
@@ -24,7 +24,7 @@ fn two_rows_close_after_seven_cuts(rt: HostRuntime) -> Result<(), Fail> {
     let problem = two_rows(rt.alloc())?;
     let mut plain = Plain::new(rt.alloc());
     for budget in 0..17u32 {
-        let outcome = plain.solve(&problem, budget)?;
+        let outcome = plain.solve(&problem, budget, &UNWATCHED)?;
         let lower = if budget < 7 { 3 } else { 4 };
         assert_eq!(rt;
             (problem.count(), numbers(&outcome), outcome.best.width),
@@ -38,7 +38,7 @@ fn two_rows_close_after_seven_cuts(rt: HostRuntime) -> Result<(), Fail> {
 #[test]
 fn two_cells_are_open_without_cuts(rt: HostRuntime) -> Result<(), Fail> {
     let problem = two_cells(rt.alloc(), 12)?;
-    let outcome = Plain::new(rt.alloc()).solve(&problem, 0)?;
+    let outcome = Plain::new(rt.alloc()).solve(&problem, 0, &UNWATCHED)?;
     assert_eq!(rt;
         (
             found(&outcome),
@@ -53,7 +53,7 @@ fn two_cells_are_open_without_cuts(rt: HostRuntime) -> Result<(), Fail> {
 #[test]
 fn two_cells_are_closed_with_six_cuts(rt: HostRuntime) -> Result<(), Fail> {
     let problem = two_cells(rt.alloc(), 12)?;
-    let outcome = Plain::new(rt.alloc()).solve(&problem, 6)?;
+    let outcome = Plain::new(rt.alloc()).solve(&problem, 6, &UNWATCHED)?;
     let (height, lower, _) = numbers(&outcome);
     assert_eq!(rt;
         (
@@ -74,7 +74,7 @@ fn a_gap_between_low_and_high_stays_open(rt: HostRuntime) -> Result<(), Fail> {
     let mut cells = List::new(alloc);
     cells.push(cell(alloc, (0, 1), 0, &[config(3, 1)], &[config(3, 2)])?)?;
     let problem = problem(alloc, 1, 1, 10, cells)?;
-    let outcome = Plain::new(alloc).solve(&problem, MAX_BUDGET)?;
+    let outcome = Plain::new(alloc).solve(&problem, MAX_BUDGET, &UNWATCHED)?;
     assert_eq!(rt; numbers(&outcome), (2, 1, 0));
     Ok(())
 }
@@ -82,7 +82,7 @@ fn a_gap_between_low_and_high_stays_open(rt: HostRuntime) -> Result<(), Fail> {
 #[test]
 fn no_cuts_have_a_log_of_one_line(rt: HostRuntime) -> Result<(), Fail> {
     let problem = two_rows(rt.alloc())?;
-    let outcome = Plain::new(rt.alloc()).solve(&problem, 0)?;
+    let outcome = Plain::new(rt.alloc()).solve(&problem, 0, &UNWATCHED)?;
     let is_shown = is_line(&outcome.log, 0, 0, &[], End::Chain);
     assert_eq!(rt;
         (numbers(&outcome), outcome.log.len(), is_shown),
@@ -96,7 +96,7 @@ fn no_cuts_have_a_log_of_one_line(rt: HostRuntime) -> Result<(), Fail> {
 #[test]
 fn one_cut_has_a_log_of_three_lines(rt: HostRuntime) -> Result<(), Fail> {
     let problem = two_cells(rt.alloc(), 12)?;
-    let outcome = Plain::new(rt.alloc()).solve(&problem, 1)?;
+    let outcome = Plain::new(rt.alloc()).solve(&problem, 1, &UNWATCHED)?;
     let lines = [
         is_line(&outcome.log, 0, 2, &[], End::Chain),
         is_line(&outcome.log, 1, 1, &[], End::Chain),
@@ -126,7 +126,7 @@ fn an_arena_keeps_the_opening(rt: HostRuntime) -> Result<(), Fail> {
 #[test]
 fn a_problem_without_columns_has_height_0(rt: HostRuntime) -> Result<(), Fail> {
     let problem = problem(rt.alloc(), 0, 0, 10, List::new(rt.alloc()))?;
-    let outcome = Plain::new(rt.alloc()).solve(&problem, 5)?;
+    let outcome = Plain::new(rt.alloc()).solve(&problem, 5, &UNWATCHED)?;
     assert_eq!(rt; (numbers(&outcome), outcome.log.len()), ((0, 0, 0), 1));
     Ok(())
 }
@@ -135,7 +135,7 @@ fn a_problem_without_columns_has_height_0(rt: HostRuntime) -> Result<(), Fail> {
 #[test]
 fn a_drawn_table_is_searched_to_the_end(rt: HostRuntime) -> Result<(), Fail> {
     let problem = drawn_table(rt.alloc(), 0, thirty_rows(6), 60)?;
-    let outcome = Plain::new(rt.alloc()).solve(&problem, 2_000)?;
+    let outcome = Plain::new(rt.alloc()).solve(&problem, 2_000, &UNWATCHED)?;
     let cuts = outcome.trace.len();
     assert_eq!(rt;
         (
@@ -153,7 +153,7 @@ fn a_drawn_table_is_searched_to_the_end(rt: HostRuntime) -> Result<(), Fail> {
 fn a_search_of_5000_cuts_spends_its_budget(rt: HostRuntime) -> Result<(), Fail> {
     let alloc = rt.alloc();
     let problem = drawn_table(alloc, 0, thirty_rows(6), 80)?;
-    let outcome = Plain::new(alloc).solve(&problem, 5_000)?;
+    let outcome = Plain::new(alloc).solve(&problem, 5_000, &UNWATCHED)?;
     assert_eq!(rt; outcome.trace.len(), 5_000);
     Ok(())
 }

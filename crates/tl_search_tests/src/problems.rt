@@ -5,11 +5,17 @@ ghost use Rattle.tl_problem.specs.Zones.{IsZone};
 
 use std::alloc::Global;
 use std::test::Fail;
-use tl_base::{Config, List, MAX_BUDGET, Steps, Style};
+use tl_base::{Config, List, MAX_BUDGET, NoGate, Steps, Style};
 use tl_cert::{Bound, CutAt, End, Log, Nogood, Side};
 use tl_check::Checker;
 use tl_problem::{Cell, Problem, Zone};
-use tl_solve::Outcome;
+use tl_solve::{Outcome, Watch};
+
+/// A search that nobody sees.
+pub(crate) const UNWATCHED: Watch<'static, NoGate> = Watch {
+    watcher: &NoGate,
+    table: 0,
+};
 
 /// Takes what may be sent to other threads and shared between them.
 pub(crate) fn share<T: Send + Sync + Drop>(_value: T) {}

@@ -8,6 +8,7 @@ ghost use Rattle.tl_rounds.specs.Book.{IsBook, IsPieceFor, problem_of};
 ghost use Rattle.tl_rounds.specs.Fans.{ArePiecesOf, IsFan};
 
 use crate::problems::{is_accepted, numbers, two_rows};
+use crate::watched::Witness;
 use std::alloc::{AllocError, Global};
 use std::process::Abort;
 use std::sync::Mutex;
@@ -18,7 +19,7 @@ use tl_branch::{Learn, MakeLearnPiece};
 use tl_fan::Run;
 use tl_problem::{Problem, Zone};
 use tl_rounds::{Book, Rounds, pieces_at_once, pieces_stay};
-use tl_solve::{Outcome, Piece, PieceSolver, Solver};
+use tl_solve::{Outcome, Piece, PieceSolver, Progress, Solver, Watch, Watcher};
 
 /// How often a thread tries to get hold of a count.
 const TURNS: u32 = 100_000_000;
@@ -91,23 +92,32 @@ impl Gate for MeetingLater {
     }
 }
 
+impl Watcher for MeetingLater {
+    fn wants(&self, _before: u32, _cuts: u32) -> bool {
+        false
+    }
+
+    fn see(&self, _progress: Progress) {}
+}
+
 /// The outcome of a search in rounds by this fan.
-fn search<F: Fn(&Problem, &[Zone], u32, u32) -> Result<Vec<Piece>, AllocError> + Sync>(
+fn search<F: Fn(&Problem, &[Zone], u32, u32) -> Result<Vec<Piece>, AllocError> + Sync, W: Watcher>(
     alloc: Global,
     problem: &Problem,
     workers: u32,
     budget: u32,
     fan: &F,
+    watch: &Watch<'_, W>,
 ) -> Result<Outcome, Fail>
     requires workers { 1 ≤ workers }
     requires budget { budget ≤ MAX_BUDGET }
     requires fan { IsFan F.Fn fan.now }
 {
-    Ok(Rounds::new(alloc, workers, fan).solve(problem, budget)?)
+    Ok(Rounds::new(alloc, workers, fan).solve(problem, budget, watch)?)
 }
 
 /// The height, the lower bound and the cuts of a search in rounds, whose log the checker accepts.
-fn searched<R: Threads + Sync, G: Gate>(
+fn searched<R: Threads + Sync, G: Gate + Watcher>(
     rt: &R,
     alloc: Global,
     problem: &Problem,
@@ -132,7 +142,11 @@ fn searched<R: Threads + Sync, G: Gate>(
         requires { All (IsZone of.now) zones.now × (length zones.now < 2 ^ 32) × (1 ≤ quota) × (quota ≤ MAX_BUDGET) }
         ensures { IfOk result (λ pieces. ArePiecesOf of.entry.now zones.entry.now best quota pieces.items) }
     { pieces_at_once(&run, &maker, of, zones, best, quota) };
-    let outcome = search(alloc, problem, workers, budget, &fan)?;
+    let watch = Watch {
+        watcher: gate,
+        table: 7,
+    };
+    let outcome = search(alloc, problem, workers, budget, &fan, &watch)?;
     if !is_accepted(alloc, problem, &outcome)? {
         return Err("the checker does not accept the log".into());
     }
@@ -163,6 +177,17 @@ fn each_budget_gives_its_bound_by_each_number_of_workers(rt: HostRuntime) -> Res
             (4, 4, 7)
         );
     }
+    Ok(())
+}
+
+// The seven cuts of the search come in rounds, and no round has them all.
+#[test]
+fn the_rounds_of_a_search_are_seen(rt: HostRuntime) -> Result<(), Fail> {
+    let alloc = rt.alloc();
+    let problem = two_rows(alloc)?;
+    let witness = Witness::new(alloc, 7);
+    searched(&rt, alloc, &problem, 1, 16, &witness)?;
+    assert_eq!(rt; witness.seen(alloc)?.as_str(), "7 7 4 4;");
     Ok(())
 }
 

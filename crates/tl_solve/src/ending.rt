@@ -13,7 +13,7 @@ ghost use Rattle.tl_solve.specs.inner.Found.{IsLeastUpto, least_with};
 
 use crate::lines::cuts_of_zones;
 use crate::log::log_of_bounds;
-use crate::{Arena, Outcome};
+use crate::{Arena, Outcome, Watch, Watcher};
 use std::alloc::AllocError;
 use tl_base::MAX_BUDGET;
 use tl_cert::Log;
@@ -27,6 +27,19 @@ impl Arena {
     {
         let cuts = cuts_of_zones(self.alloc, &self.trace)?;
         Ok(least_standing(&cuts, &self.bounds, self.best.height))
+    }
+
+    /// Lets a watcher see a search after a cut, if it wants to. Where memory for that runs out it sees nothing.
+    pub fn show<W: Watcher>(&self, problem: &Problem, watch: &Watch<'_, W>)
+        requires { IsArenaOf problem.now self.now }
+    {
+        let cuts = self.trace.len() as u32;
+        if !watch.wants(cuts.saturating_sub(1), cuts) {
+            return;
+        }
+        if let Ok(lower) = self.lower(problem) {
+            watch.see(cuts, self.best.height, lower);
+        }
     }
 
     /// The outcome of a search that made all cuts of its budget, or has each zone closed. Its lower

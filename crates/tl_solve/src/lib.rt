@@ -15,6 +15,7 @@ mod piece;
 mod plain;
 mod solver;
 mod trace_ending;
+mod watcher;
 mod zones;
 
 pub use arena::{Arena, first_open};
@@ -25,5 +26,6 @@ pub use outcome::Outcome;
 pub use piece::{MakePiece, Piece, PieceSolver};
 pub use plain::Plain;
 pub use solver::Solver;
-pub use trace_ending::trace_outcome;
+pub use trace_ending::{trace_lower, trace_outcome};
+pub use watcher::{Progress, Watch, Watcher};
 pub use zones::zones_of_trace;

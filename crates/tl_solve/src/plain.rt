@@ -3,7 +3,7 @@
 ghost use Rattle.std.specs.Prelude.{◌≡◌};
 ghost use Rattle.tl_solve.specs.Plain.{IsPlainOutcome};
 
-use crate::{Arena, Outcome, Solver};
+use crate::{Arena, Outcome, Solver, Watch, Watcher};
 use std::alloc::{AllocError, Global};
 use tl_problem::Problem;
 
@@ -28,7 +28,12 @@ impl Solver for Plain {
 
     ghost besides = { λ _ problem _ outcome. IsPlainOutcome problem outcome };
 
-    fn solve(&mut self, problem: &Problem, budget: u32) -> Result<Outcome, AllocError> {
+    fn solve<W: Watcher>(
+        &mut self,
+        problem: &Problem,
+        budget: u32,
+        watch: &Watch<'_, W>,
+    ) -> Result<Outcome, AllocError> {
         let mut arena = Arena::open(self.alloc, problem)?;
         let mut stack: Vec<u32> = Vec::new(self.alloc);
         stack.push(0)?;
@@ -39,6 +44,7 @@ impl Solver for Plain {
                     return arena.finish(problem, budget);
                 }
                 arena.cut(problem, cut)?;
+                arena.show(problem, watch);
                 stack.push(2 * made + 2)?;
                 stack.push(2 * made + 1)?;
             }

@@ -5,7 +5,7 @@ ghost use Rattle.tl_problem.specs.Problem.{ProblemModel};
 ghost use Rattle.tl_solve.specs.declared.outcome.Outcome.{Outcome};
 ghost use Rattle.tl_solve.specs.Solver.{IsSolverOutcome};
 
-use crate::Outcome;
+use crate::{Outcome, Watch, Watcher};
 use std::alloc::AllocError;
 use tl_base::MAX_BUDGET;
 use tl_problem::Problem;
@@ -20,8 +20,13 @@ pub trait Solver: Drop + Send {
 
     ghost besides: { Self → ProblemModel → ℕ → Outcome → Type 0 };
 
-    /// Searches the problem with at most `budget` cuts.
-    fn solve(&mut self, problem: &Problem, budget: u32) -> Result<Outcome, AllocError>
+    /// Searches the problem with at most `budget` cuts, and lets a watcher see it after each.
+    fn solve<W: Watcher>(
+        &mut self,
+        problem: &Problem,
+        budget: u32,
+        watch: &Watch<'_, W>,
+    ) -> Result<Outcome, AllocError>
         requires callable { can_solve self.old }
         requires budget { budget ≤ MAX_BUDGET }
         ensures solved { IfOk result (IsSolverOutcome problem.now budget) }

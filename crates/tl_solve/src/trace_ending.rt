@@ -55,6 +55,25 @@ pub fn trace_outcome(
     })
 }
 
+/// The least of the height and of the bounds of the zones that stand and have widths, in lines. It takes the
+/// time of a bound for each zone.
+pub fn trace_lower(
+    alloc: Global,
+    problem: &Problem,
+    trace: &Trace,
+    height: u32,
+) -> Result<u32, AllocError>
+    requires sound { IsSound problem.now }
+    requires trace_of { IsTraceOf problem.now trace.now }
+    requires few { length trace.now ≤ MAX_BUDGET }
+    ensures { IfOk result (IsLeastStanding problem.now trace.now height) }
+{
+    let zones = zones_of_trace(alloc, problem, trace)?;
+    let bounds = bounds_of_trace(alloc, problem, trace, &zones)?;
+    let cuts = cuts_of_zones(alloc, trace)?;
+    Ok(least_standing(&cuts, &bounds, height))
+}
+
 /// The least of the height and of the bounds that stand, with the log that proves it.
 fn least_with_log(
     alloc: Global,

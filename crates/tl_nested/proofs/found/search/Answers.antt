@@ -16,7 +16,7 @@ returns-clause-searched g c =
     let outcome = c.in_ok-outcome.outcome in
     let given = GivesOutcome g.F.Fn c.args.solve.now c.args.budget in
     let at = c.in_ok-problem.ensures (section_of (due_of c.args.due) outcome) refl refl in
-    let both = solved_by g.F.Fn c.args.solve.now _ c.args.budget c.solve.result outcome c.requires.solves at.sound
+    let both = solved_by g.F.Fn c.args.solve.now _ _ c.args.budget c.solve.result outcome c.requires.solves at.sound
     c.in_ok-outcome.was c.solve.ensures in
     let P : Found → Type 0 = λ found. IsSearched given (meant c.args.subject.now) c.args.budget c.args.before.now found.section in
     IfOk-weaker c.found_of.result (λ found. found ≡ found_of (due_of c.args.due) outcome) P
@@ -29,7 +29,7 @@ pub returns-clause-placed : goal.returns-clause-placed
 returns-clause-placed g c =
     let outcome = c.in_ok-outcome.outcome in
     let at = c.in_ok-problem.ensures (section_of (due_of c.args.due) outcome) refl refl in
-    let both = solved_by g.F.Fn c.args.solve.now _ c.args.budget c.solve.result outcome c.requires.solves at.sound
+    let both = solved_by g.F.Fn c.args.solve.now _ _ c.args.budget c.solve.result outcome c.requires.solves at.sound
     c.in_ok-outcome.was c.solve.ensures in
     let P : Found → Type 0 = λ found. IsPlacementAt (meant c.args.subject.now) c.args.before.now found.section found.placed in
     IfOk-weaker c.found_of.result (λ found. found ≡ found_of (due_of c.args.due) outcome) P
@@ -42,7 +42,7 @@ pub returns-clause-width : goal.returns-clause-width
 returns-clause-width g c =
     let outcome = c.in_ok-outcome.outcome in
     let at = c.in_ok-problem.ensures (section_of (due_of c.args.due) outcome) refl refl in
-    let both = solved_by g.F.Fn c.args.solve.now _ c.args.budget c.solve.result outcome c.requires.solves at.sound
+    let both = solved_by g.F.Fn c.args.solve.now _ _ c.args.budget c.solve.result outcome c.requires.solves at.sound
     c.in_ok-outcome.was c.solve.ensures in
     let P : Found → Type 0 = λ found. found.placed.width ≡ placed_width c.args.subject.now.style found.section in
     IfOk-weaker c.found_of.result (λ found. found ≡ found_of (due_of c.args.due) outcome) P
@@ -55,7 +55,7 @@ pub returns-clause-writable : goal.returns-clause-writable
 returns-clause-writable g c =
     let outcome = c.in_ok-outcome.outcome in
     let at = c.in_ok-problem.ensures (section_of (due_of c.args.due) outcome) refl refl in
-    let both = solved_by g.F.Fn c.args.solve.now _ c.args.budget c.solve.result outcome c.requires.solves at.sound
+    let both = solved_by g.F.Fn c.args.solve.now _ _ c.args.budget c.solve.result outcome c.requires.solves at.sound
     c.in_ok-outcome.was c.solve.ensures in
     let P : Found → Type 0 = λ found. IsSectionWritable found.section in
     IfOk-weaker c.found_of.result (λ found. found ≡ found_of (due_of c.args.due) outcome) P

@@ -38,7 +38,7 @@ returns-clause-found g c =
     let for_one = it_is ((problem : ProblemModel) → IsProblemFor one document.style c.args.due.width c.args.told.now problem →
     ⊥) c.in_ok-problem.field-0 problem
     (IsProblemFor one document.style c.args.due.width c.args.told.now) c.in-Some.is c.in_ok-problem.ensures in
-    let both = solved_by g.F.Fn c.args.solve.now _ c.args.budget c.solve.result outcome c.requires.solves for_one.sound
+    let both = solved_by g.F.Fn c.args.solve.now _ _ c.args.budget c.solve.result outcome c.requires.solves for_one.sound
     c.in_ok-outcome.was c.solve.ensures in
     found_here (GivesOutcome g.F.Fn c.args.solve.now c.args.budget) document c.args.budget c.args.told.now (due_of c.args.due) one
     problem outcome c.in_ok-found_of.field-0.section c.table_of-table.ensures for_one both.0 both.1

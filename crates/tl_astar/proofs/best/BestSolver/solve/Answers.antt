@@ -14,12 +14,12 @@ use Rattle.tl_astar.proofs.SearchLaws.{left-kept, least-kept}
 use Rattle.tl_astar.proofs.best.BestSolver.solve.Goals as goal
 
 pub choose-requires-clause-stands : goal.choose-requires-clause-stands
-choose-requires-clause-stands c =
+choose-requires-clause-stands g c =
     let s = c.next.new.self in
     All-head (Stands s.arena.trace) c.in-Some.first.zone (open_zones s) c.in-Some.ensures.left.standing
 
 pub cut-requires-clause-left : goal.cut-requires-clause-left
-cut-requires-clause-left c =
+cut-requires-clause-left g c =
     let p = c.args.problem.now in
     let s = c.next.new.self in
     let t = c.choose.new.self in
@@ -29,7 +29,7 @@ cut-requires-clause-left c =
     (left-kept p s t told.opens told.trace (λ zones. c.in-Some.first.zone ∷ zones) told.lowered c.in-Some.ensures.left)
 
 pub cut-requires-clause-least : goal.cut-requires-clause-least
-cut-requires-clause-least c =
+cut-requires-clause-least g c =
     let p = c.args.problem.now in
     let s = c.next.new.self in
     let t = c.choose.new.self in
@@ -39,7 +39,7 @@ cut-requires-clause-least c =
     (least-kept p s t told.opens told.trace c.in-Some.first.zone c.in-Some.ensures.least)
 
 pub loop-first-preserved : goal.loop-first-preserved
-loop-first-preserved c =
+loop-first-preserved g c =
     let p = c.args.problem.now in
     let s = c.next.new.self in
     let t = c.choose.new.self in

@@ -27,7 +27,7 @@ searching-cut problem l stack z is cut first top =
     first-is_cut problem l.arena.trace z cut stands (arena-zone problem l.arena is.learning.arena z stands.there) first top
 
 pub loop-zone-init : goal.loop-zone-init
-loop-zone-init c = record {
+loop-zone-init g c = record {
   searching = search-start c.args.problem.now c.args.budget c.in_ok-learning.learning c.in_ok-learning.ensures.learning
       c.in_ok-learning.ensures.start c.push.new.self.items
       (c.in_ok-push.ensures.items ∙ ap (λ (zs : List ℕ). zs ++ 0 ∷ []) c.new-stack.ensures.items);
@@ -35,14 +35,14 @@ loop-zone-init c = record {
 }
 
 pub close-requires-clause-stands : goal.close-requires-clause-stands
-close-requires-clause-stands c =
+close-requires-clause-stands g c =
     let p = c.args.problem.now in
     let l = c.loop-zone.learning in
     searching-stands p l c.pop.new.self.items c.in-Some.zone
     (subst (IsSearching p l) c.in-Some.ensures.items c.loop-zone.invariant.searching)
 
 pub loop-zone-preserved-else-learning : goal.loop-zone-preserved-else-learning
-loop-zone-preserved-else-learning c =
+loop-zone-preserved-else-learning g c =
     let p = c.args.problem.now in
     let l = c.loop-zone.learning in
     let mid = c.close.new.self in
@@ -57,7 +57,7 @@ loop-zone-preserved-else-learning c =
     }
 
 pub first_cut-requires-clause-there : goal.first_cut-requires-clause-there
-first_cut-requires-clause-there c =
+first_cut-requires-clause-there g c =
     let p = c.args.problem.now in
     let l = c.loop-zone.learning in
     let mid = c.close.new.self in
@@ -70,7 +70,7 @@ first_cut-requires-clause-there c =
     (c.in_ok-close.ensures.none c.if-branch.false))).there
 
 pub cut-requires-clause-cut : goal.cut-requires-clause-cut
-cut-requires-clause-cut c =
+cut-requires-clause-cut g c =
     let p = c.args.problem.now in
     let l = c.loop-zone.learning in
     let mid = c.close.new.self in
@@ -84,10 +84,10 @@ cut-requires-clause-cut c =
     c.in-Some-first_cut.cut c.in-Some-first_cut.ensures.first c.in-Some-first_cut.ensures.zone
 
 pub cut-requires-clause-going : goal.cut-requires-clause-going
-cut-requires-clause-going c = c.in_ok-close.ensures.going c.if-branch.false
+cut-requires-clause-going g c = c.in_ok-close.ensures.going c.if-branch.false
 
 pub cut-requires-clause-unclosed : goal.cut-requires-clause-unclosed
-cut-requires-clause-unclosed c =
+cut-requires-clause-unclosed g c =
     let p = c.args.problem.now in
     let l = c.loop-zone.learning in
     let mid = c.close.new.self in
@@ -102,7 +102,7 @@ cut-requires-clause-unclosed c =
 
 -- its parts take its place
 pub loop-zone-preserved-in-Continue-branch-6 : goal.loop-zone-preserved-in-Continue-branch-6
-loop-zone-preserved-in-Continue-branch-6 c =
+loop-zone-preserved-in-Continue-branch-6 g c =
     let p = c.args.problem.now in
     let l = c.loop-zone.learning in
     let mid = c.close.new.self in
@@ -131,7 +131,7 @@ loop-zone-preserved-in-Continue-branch-6 c =
 
 -- it has one class, where `low` is unlike `high`
 pub loop-zone-preserved : goal.loop-zone-preserved
-loop-zone-preserved c =
+loop-zone-preserved g c =
     let p = c.args.problem.now in
     let l = c.loop-zone.learning in
     let mid = c.close.new.self in
@@ -151,7 +151,7 @@ loop-zone-preserved c =
 
 -- the budget is spent
 pub finish-requires-then-made-budget-clause-ended : goal.finish-requires-then-made-budget-clause-ended
-finish-requires-then-made-budget-clause-ended c =
+finish-requires-then-made-budget-clause-ended g c =
     let p = c.args.problem.now in
     let l = c.loop-zone.learning in
     let mid = c.close.new.self in
@@ -170,7 +170,7 @@ finish-requires-then-made-budget-clause-ended c =
     c.in-Some-first_cut.ensures.below (c.in_ok-close.ensures.open c.if-branch.false))
 
 pub finish-requires-2-clause-ended : goal.finish-requires-2-clause-ended
-finish-requires-2-clause-ended c =
+finish-requires-2-clause-ended g c =
     let empty = match-none c.pop.result _ _ c.pop.ensures.cases c.in_default.not-Some in
     let none : length c.loop-zone.stack.items ≡ 0 = omega (arith, empty.0, c.loop-zone.stack.ok) in
     λ _. inr (λ z stands. elim (c.loop-zone.invariant.searching.handled z stands) [

@@ -12,7 +12,7 @@ use Rattle.tl_solve.proofs.WalkLaws.{plain-outcome}
 use Rattle.tl_solve.proofs.plain.PlainSolver.solve.Goals as goal
 
 pub loop-zone-init : goal.loop-zone-init
-loop-zone-init c =
+loop-zone-init g c =
     let none = c.in_ok-arena.ensures.no_cut in
     record {
       arena = c.in_ok-arena.ensures.arena;
@@ -24,14 +24,14 @@ loop-zone-init c =
     }
 
 pub first_cut-requires-clause-there : goal.first_cut-requires-clause-there
-first_cut-requires-clause-there c =
+first_cut-requires-clause-there g c =
     let p = c.args.problem.now in
     let arena = c.loop-zone.arena in
     let on = subst (IsStack p arena.trace arena.best.height) c.in-Some.ensures.items c.loop-zone.invariant.on_stack in
     (top-stands p arena.trace arena.best.height c.pop.new.self.items c.in-Some.zone on).there
 
 pub cut-requires-clause-cut : goal.cut-requires-clause-cut
-cut-requires-clause-cut c =
+cut-requires-clause-cut g c =
     let p = c.args.problem.now in
     let arena = c.loop-zone.arena in
     let z = c.in-Some.zone in
@@ -42,7 +42,7 @@ cut-requires-clause-cut c =
 
 -- the zone on top was closed
 pub loop-zone-preserved : goal.loop-zone-preserved
-loop-zone-preserved c =
+loop-zone-preserved g c =
     let p = c.args.problem.now in
     let arena = c.loop-zone.arena in
     let z = c.in-Some.zone in
@@ -59,7 +59,7 @@ loop-zone-preserved c =
 
 -- its parts take its place
 pub loop-zone-preserved-in-Continue-branch-5 : goal.loop-zone-preserved-in-Continue-branch-5
-loop-zone-preserved-in-Continue-branch-5 c =
+loop-zone-preserved-in-Continue-branch-5 g c =
     let p = c.args.problem.now in
     let arena = c.loop-zone.arena in
     let is = c.loop-zone.invariant.arena in
@@ -99,19 +99,19 @@ loop-zone-preserved-in-Continue-branch-5 c =
     }
 
 pub finish-requires-2-clause-ended : goal.finish-requires-2-clause-ended
-finish-requires-2-clause-ended c =
+finish-requires-2-clause-ended g c =
     let empty = match-none c.pop.result _ _ c.pop.ensures.cases c.in_default.not-Some in
     let none : length c.loop-zone.stack.items ≡ 0 = omega (arith, empty.0, c.loop-zone.stack.ok) in
     inr (stack-end c.args.problem.now c.loop-zone.arena.trace c.loop-zone.arena.best.height c.loop-zone.stack.items none
     c.loop-zone.invariant.on_stack)
 
 pub returns-then-made-budget-clause-besides : goal.returns-then-made-budget-clause-besides
-returns-then-made-budget-clause-besides c =
+returns-then-made-budget-clause-besides g c =
     plain-ends c.args.problem.now c.loop-zone.arena c.loop-zone.invariant.arena c.loop-zone.invariant.order c.finish.result
     c.finish.ensures.best
     c.finish.ensures.trace c.finish.ensures.lines
 
 pub returns-clause-besides : goal.returns-clause-besides
-returns-clause-besides c =
+returns-clause-besides g c =
     plain-outcome c.args.problem.now c.loop-zone.arena c.loop-zone.invariant.arena c.loop-zone.invariant.order c.in_ok-found.found
     c.in_ok-found.ensures.best c.in_ok-found.ensures.trace c.in_ok-found.ensures.lines
