@@ -69,7 +69,7 @@ in_process() {
 build_bench() {
     mkdir -p copy/crates
     git -C "$top" archive HEAD crates crates.txt HANDLES | tar -x -C copy
-    echo "batch_bench tests_may=Threads: tl_lay tl_command tl_read tl_base" >>copy/crates.txt
+    echo "batch_bench tests_may=Threads: tl_lay tl_command tl_read tl_files tl_base" >>copy/crates.txt
     mkdir -p copy/crates/batch_bench/src
     cp "$here/batch_test.txt" copy/crates/batch_bench/src/bench.rt
     printf '#![tactic(auto)]\n\n#[cfg(test)]\nmod bench;\n' >copy/crates/batch_bench/src/lib.rt

@@ -113,7 +113,7 @@ is_told "tablelayout: command 'demo' $NAMES" demo 1 in.html
 "$top/tablelayout" --version | cmp - <("$program" --version) || touch "$failed"
 "$program" --help | grep -q "^tablelayout lay WIDTH" || touch "$failed"
 "$program" -h | cmp - <("$program" --help) || touch "$failed"
-"$program" --help >/dev/full
+"$program" --help >/dev/full 2>/dev/null
 echo "status $?" | expect_text "status 8" "by --help on a full device"
 
 [ ! -e "$failed" ]

@@ -5,15 +5,18 @@
 ghost use Rattle.std.specs.Prelude.{◌≡◌, ◌≢◌};
 ghost use Rattle.std.specs.IoError.{error_kind};
 
+use std::alloc::AllocError;
 use std::env;
 use std::io::{self, BufReader, ErrorKind};
 use std::process::ExitCode;
+use std::rt::Files;
 use std::thread::Threads;
 use tl_arguments::{Question, VERSION, arrange, complaint};
 use tl_base::NoGate;
 use tl_batch::{Ending, asks_for_batch, batch};
+use tl_command::{Ask, Command};
 use tl_exchange::Streams;
-use tl_files::RealDesk;
+use tl_files::{RealDesk, STANDARD_OUTPUT, shared_file, tell};
 use tl_program::{Status, run};
 
 /// What `--help` prints.
@@ -35,7 +38,7 @@ fn main(rt: HostRuntime) -> ExitCode {
         Err(error) => return ExitCode::from(status_without_arguments(&error).number()),
     };
     if let Some(question) = Question::asked(words.as_slice()) {
-        return ExitCode::from(answer(&rt, question).number());
+        return ExitCode::from(answer(&rt, &rt.stderr(), question).number());
     }
     if asks_for_batch(words.as_slice()) {
         return ExitCode::from(answer_requests(&rt).number());
@@ -43,17 +46,50 @@ fn main(rt: HostRuntime) -> ExitCode {
     let Ok(arranged) = arrange(alloc, words.as_slice()) else {
         return ExitCode::from(Status::Memory.number());
     };
-    let status = run(
-        &rt,
-        alloc,
-        arranged.as_slice(),
-        &mut RealDesk::new(&rt),
-        &NoGate,
-    );
+    let Ok(clash) = clash_of(&rt, arranged.as_slice()) else {
+        return ExitCode::from(Status::Memory.number());
+    };
+    // Where two names are of one file nothing is asked for, so nothing is read or stored.
+    let asked = if clash.is_some() {
+        &[]
+    } else {
+        arranged.as_slice()
+    };
+    let mut desk = RealDesk::new(&rt, rt.stderr());
+    let status = run(&rt, alloc, asked, &mut desk, &NoGate);
     if status == Status::Usage.number() {
-        complain(&rt, words.as_slice());
+        complain(&rt, words.as_slice(), clash);
     }
     ExitCode::from(status)
+}
+
+/// What is wrong where a command would store a file over another one of its files, in one line without
+/// its end: the two names of that one file. The error says that memory ran out.
+fn clash_of(
+    rt: &(impl Files + AllocGlobal),
+    words: &[String],
+) -> Result<Option<String>, AllocError> {
+    let Some(ask) = Ask::parse(words) else {
+        return Ok(None);
+    };
+    match ask.command {
+        Command::Lay | Command::Narrow | Command::Tidy => shared_names(rt, ask.names),
+        Command::Check | Command::Demo => Ok(None),
+    }
+}
+
+/// That two of the names are of one file, if they are.
+fn shared_names(
+    rt: &(impl Files + AllocGlobal),
+    names: &[String],
+) -> Result<Option<String>, AllocError> {
+    match shared_file(rt, names)? {
+        Some((one, other)) => {
+            let (one, other) = (&names[one], &names[other]);
+            Ok(Some(format!(in rt.alloc(); "'{one}' and '{other}' are one file")?))
+        }
+        None => Ok(None),
+    }
 }
 
 /// Answers the requests of standard input on standard output.
@@ -68,20 +104,28 @@ fn answer_requests(rt: &(impl Threads + Sync + Input + Print + AllocGlobal)) -> 
 }
 
 /// Prints the answer to what is asked of the program itself.
-fn answer(rt: &impl Print, question: Question) -> Status {
+fn answer(rt: &(impl Print + AllocGlobal), errors: &impl Print, question: Question) -> Status {
     let printed = match question {
         Question::Help => println!(rt; "{HELP}"),
         Question::Version => println!(rt; "tablelayout {VERSION}"),
     };
     match printed {
         Ok(()) => Status::Lowest,
-        Err(_) => Status::WriteFault,
+        Err(error) => {
+            tell(rt.alloc(), errors, STANDARD_OUTPUT, &error);
+            Status::WriteFault
+        }
     }
 }
 
-/// Says on standard error what is wrong with the arguments. Where that fails, the status says enough.
-fn complain(rt: &(impl Eprint + AllocGlobal), words: &[String]) {
-    if let Ok(text) = complaint(rt.alloc(), words) {
+/// Says on standard error what is wrong with the arguments: the clash of two names, if there is one.
+/// Where that fails, the status says enough.
+fn complain(rt: &(impl Eprint + AllocGlobal), words: &[String], clash: Option<String>) {
+    let text = match clash {
+        Some(text) => Ok(text),
+        None => complaint(rt.alloc(), words),
+    };
+    if let Ok(text) = text {
         let _ = eprintln!(rt; "tablelayout: {text}");
     }
 }

@@ -1,46 +1,86 @@
-//! The desk over the files and the standard output of the system.
-ghost use Rattle.std.specs.Prelude.{◌≡◌, ◌+◌, ◌-◌, ◌^◌, ◌≤◌, ℕ, List, length, take, Option, None, Err, IsOk, IfOk, OnOk, OnErr, IfSome};
+//! The desk over the files and the standard streams of the system.
+ghost use Rattle.std.specs.Prelude.{◌≡◌, ◌↔◌, ◌+◌, ◌-◌, ◌^◌, ◌≤◌, ℕ, List, length, take, Option, None, Err, IsOk, IfOk, OnOk, OnErr, IfSome, alloc_error};
 ghost use Rattle.std.specs.Io.KnownBytes.{Appends};
+ghost use Rattle.std.specs.IoError.{error_kind};
 ghost use Rattle.tl_base.specs.Desk.{Files, next_up_to};
-ghost use Rattle.tl_base.specs.declared.desk.DeskFault.TheVariants.{Failed};
+ghost use Rattle.tl_base.specs.declared.desk.DeskFault.TheVariants.{Failed, Memory};
 
+use crate::replacing::replace;
+use crate::telling::tell;
 use std::alloc::{AllocError, Global};
 use std::fs::File;
-use std::io::{self, Read, Write};
+use std::io::{self, ErrorKind, Read, Write};
 use std::rt::Files;
 use tl_base::{Desk, DeskFault, List};
 
 /// The name of standard output. What is stored under it is printed: a file opened by this name would
 /// be truncated, and what is printed next would overwrite it.
-const STANDARD_OUTPUT: &str = "/dev/stdout";
+pub const STANDARD_OUTPUT: &str = "/dev/stdout";
 
-/// The real outside: std's files and standard output. What is stored under the name `/dev/stdout`
-/// is printed. It is trusted and small: no contract says what a file or a terminal holds, so it
-/// tells neither meaning. Each call that returns an error raises its count.
+/// The name of standard error, under which what is stored is printed too.
+const STANDARD_ERROR: &str = "/dev/stderr";
+
+/// The real outside: std's files, standard output and standard error. What is stored under the names
+/// `/dev/stdout` and `/dev/stderr` is printed; a file is replaced whole or not at all, where a new one
+/// can take its place. It is trusted and small: no contract says what a file or a terminal holds, so
+/// it tells neither meaning. Each call that returns an error raises its count, and says on standard
+/// error what the system said.
 #[derive(Drop)]
-pub struct RealDesk<R> {
+pub struct RealDesk<R, E> {
     runtime: R,
+    errors: E,
     load_faults: u64,
     write_faults: u64,
 }
 
-impl<R> RealDesk<R> {
+impl<R, E> RealDesk<R, E> {
     ghost use Rattle.tl_files.specs.Desk.{load_faults_of, write_faults_of};
 
-    /// The desk over the runtime's files and standard output, with both counts at 0.
-    pub fn new(runtime: R) -> RealDesk<R>
+    /// The desk over the runtime's files and standard output, and over standard error, with both
+    /// counts at 0.
+    pub fn new(runtime: R, errors: E) -> RealDesk<R, E>
         ensures load_faults { load_faults_of result ≡ 0 }
         ensures write_faults { write_faults_of result ≡ 0 }
     {
         RealDesk {
             runtime,
+            errors,
             load_faults: 0,
             write_faults: 0,
         }
     }
 }
 
-impl<R: Files + Print + AllocGlobal> Desk for RealDesk<R> {
+impl<R: Files + Print + AllocGlobal, E: Print> RealDesk<R, E> {
+    ghost use Rattle.tl_files.specs.Desk.{load_faults_of, write_faults_of};
+
+    /// Writes the bytes to what has this name, in place of all that a file there holds. After an
+    /// error some may have been written, so that it is never `Memory`.
+    fn write(&mut self, name: &str, bytes: &[u8]) -> Result<(), DeskFault>
+        ensures failed { OnErr result (result ≡ Err Failed) }
+        ensures ok_count { OnOk result (write_faults_of self.new ≡ write_faults_of self.old) }
+        ensures err_count { OnErr result
+            (write_faults_of self.new ≡ next_up_to (2 ^ 64 - 1) (write_faults_of self.old)) }
+        ensures count { write_faults_of self.old ≤ write_faults_of self.new }
+        ensures load_count { load_faults_of self.new ≡ load_faults_of self.old }
+    {
+        let written = match name {
+            STANDARD_OUTPUT => write_whole(&mut io::writer(&self.runtime), bytes),
+            STANDARD_ERROR => write_whole(&mut io::writer(&self.errors), bytes),
+            _ => write_opened(File::create(&self.runtime, name), bytes),
+        };
+        match written {
+            Ok(()) => Ok(()),
+            Err(error) => {
+                tell(self.runtime.alloc(), &self.errors, name, &error);
+                count_one(&mut self.write_faults);
+                Err(DeskFault::Failed)
+            }
+        }
+    }
+}
+
+impl<R: Files + Print + AllocGlobal, E: Print> Desk for RealDesk<R, E> {
     ghost use Rattle.tl_files.specs.Desk.{load_faults_of, write_faults_of, FailsToLoad};
 
     ghost files = { λ _. None };
@@ -54,21 +94,53 @@ impl<R: Files + Print + AllocGlobal> Desk for RealDesk<R> {
     ghost fails_to_load = { FailsToLoad };
 
     fn load(&mut self, name: &str, most: u32) -> Result<List<u8>, DeskFault> {
-        let file = File::open(&self.runtime, name);
-        read_most(self.runtime.alloc(), file, most, &mut self.load_faults)
+        let alloc = self.runtime.alloc();
+        let opened = File::open(&self.runtime, name);
+        match read_most(alloc, opened, most) {
+            Ok(bytes) => Ok(bytes),
+            Err(error) => {
+                tell(alloc, &self.errors, name, &error);
+                count_one(&mut self.load_faults);
+                Err(fault_of(&error))
+            }
+        }
     }
 
     fn store(&mut self, name: &str, bytes: &[u8]) -> Result<(), DeskFault> {
-        if name == STANDARD_OUTPUT {
-            return self.say(bytes);
+        if name == STANDARD_OUTPUT || name == STANDARD_ERROR {
+            return self.write(name, bytes);
         }
-        let file = File::create(&self.runtime, name);
-        write_opened(file, bytes, &mut self.write_faults)
+        match replace(&self.runtime, name, bytes) {
+            Ok(true) => Ok(()),
+            Ok(false) => self.write(name, bytes),
+            Err(error) => {
+                tell(self.runtime.alloc(), &self.errors, name, &error);
+                count_one(&mut self.write_faults);
+                Err(fault_of(&error))
+            }
+        }
     }
 
     fn say(&mut self, bytes: &[u8]) -> Result<(), DeskFault> {
-        let mut output = io::writer(&self.runtime);
-        write_whole(&mut output, bytes, &mut self.write_faults)
+        self.write(STANDARD_OUTPUT, bytes)
+    }
+}
+
+/// Counts one fault more.
+fn count_one(faults: &mut u64)
+    ensures next { faults.new ≡ next_up_to (2 ^ 64 - 1) faults.old }
+    ensures count { faults.old ≤ faults.new }
+{
+    *faults = faults.saturating_add(1);
+}
+
+/// The fault of a call after which all is as it was before.
+fn fault_of(error: &io::Error) -> DeskFault
+    ensures memory { result ≡ Memory alloc_error ↔ error_kind error.now ≡ ErrorKind.OutOfMemory }
+{
+    match error.kind() {
+        ErrorKind::OutOfMemory => DeskFault::Memory(AllocError),
+        _ => DeskFault::Failed,
     }
 }
 
@@ -77,26 +149,13 @@ fn read_most<R: Read + Drop>(
     alloc: Global,
     opened: io::Result<R>,
     most: u32,
-    faults: &mut u64,
-) -> Result<List<u8>, DeskFault>
+) -> io::Result<List<u8>>
     ensures short { IfOk result (λ bytes. length bytes ≤ most + 1) }
     ensures read { IfOk result (λ bytes. IfOk opened (λ reader.
         IfSome (R.remaining reader) (λ all. bytes ≡ take (most + 1) all))) }
     ensures opened { OnOk result (IsOk opened) }
-    ensures ok_count { OnOk result (faults.new ≡ faults.old) }
-    ensures err_count { OnErr result (faults.new ≡ next_up_to (2 ^ 64 - 1) faults.old) }
-    ensures count { faults.old ≤ faults.new }
 {
-    match opened.and_then(|reader| bytes_of(alloc, reader, most)) {
-        Ok(bytes) => Ok(bytes),
-        Err(error) => {
-            *faults = faults.saturating_add(1);
-            Err(match error.kind() {
-                io::ErrorKind::OutOfMemory => DeskFault::Memory(AllocError),
-                _ => DeskFault::Failed,
-            })
-        }
-    }
+    opened.and_then(|reader| bytes_of(alloc, reader, most))
 }
 
 /// Reads to the end, or until `most + 1` bytes are read.
@@ -113,44 +172,16 @@ fn bytes_of<R: Read + Drop>(alloc: Global, reader: R, most: u32) -> io::Result<L
 }
 
 /// Writes all of the bytes to what was opened.
-fn write_opened<W: Write + Drop>(
-    opened: io::Result<W>,
-    bytes: &[u8],
-    faults: &mut u64,
-) -> Result<(), DeskFault>
+fn write_opened<W: Write + Drop>(opened: io::Result<W>, bytes: &[u8]) -> io::Result<()>
     ensures opened { OnOk result (IsOk opened) }
-    ensures failed { OnErr result (result ≡ Err Failed) }
-    ensures ok_count { OnOk result (faults.new ≡ faults.old) }
-    ensures err_count { OnErr result (faults.new ≡ next_up_to (2 ^ 64 - 1) faults.old) }
-    ensures count { faults.old ≤ faults.new }
 {
-    match opened {
-        Ok(mut writer) => write_whole(&mut writer, bytes, faults),
-        Err(_) => {
-            *faults = faults.saturating_add(1);
-            Err(DeskFault::Failed)
-        }
-    }
-}
-
-/// Writes all of the bytes and flushes, and counts a fault where that fails.
-fn write_whole<W: Write>(writer: &mut W, bytes: &[u8], faults: &mut u64) -> Result<(), DeskFault>
-    ensures written { OnOk result (Appends (W.contents writer.old) (W.contents writer.new) bytes.now) }
-    ensures failed { OnErr result (result ≡ Err Failed) }
-    ensures ok_count { OnOk result (faults.new ≡ faults.old) }
-    ensures err_count { OnErr result (faults.new ≡ next_up_to (2 ^ 64 - 1) faults.old) }
-    ensures count { faults.old ≤ faults.new }
-{
-    if write_and_flush(writer, bytes).is_ok() {
-        return Ok(());
-    }
-    *faults = faults.saturating_add(1);
-    Err(DeskFault::Failed)
+    let mut writer = opened?;
+    write_whole(&mut writer, bytes)
 }
 
 /// Writes all of the bytes and flushes.
-fn write_and_flush<W: Write>(writer: &mut W, bytes: &[u8]) -> io::Result<()>
-    ensures { OnOk result (Appends (W.contents writer.old) (W.contents writer.new) bytes.now) }
+pub(crate) fn write_whole<W: Write>(writer: &mut W, bytes: &[u8]) -> io::Result<()>
+    ensures written { OnOk result (Appends (W.contents writer.old) (W.contents writer.new) bytes.now) }
 {
     writer.write_all(bytes)?;
     writer.flush()
@@ -195,7 +226,7 @@ mod tests {
         let prefix = many_bytes(rt.alloc(), 200_000)?;
         is_held_whole(
             &rt,
-            &mut RealDesk::new(&rt),
+            &mut RealDesk::new(&rt, rt.stderr()),
             bytes.as_slice(),
             prefix.as_slice(),
         )?;
@@ -221,7 +252,7 @@ mod tests {
 
     #[test]
     fn a_missing_file_and_a_full_device_are_faults(rt: HostRuntime) -> Result<(), Fail> {
-        let mut desk = RealDesk::new(&rt);
+        let mut desk = RealDesk::new(&rt, rt.stderr());
         assert!(rt; matches!(desk.load("no_such_file.txt", 9), Err(DeskFault::Failed)));
         assert!(rt;
             matches!(
@@ -234,10 +265,11 @@ mod tests {
     }
 
     #[test]
-    fn standard_output_is_one_stream_under_both_names(rt: HostRuntime) -> Result<(), Fail> {
-        let mut desk = RealDesk::new(&rt);
+    fn streams_are_printed_to_under_their_names(rt: HostRuntime) -> Result<(), Fail> {
+        let mut desk = RealDesk::new(&rt, rt.stderr());
         desk.store("/dev/stdout", b"printed by the real desk\n")?;
         desk.say(b"and once more\n")?;
+        desk.store("/dev/stderr", b"and on standard error\n")?;
         Ok(())
     }
 
@@ -261,14 +293,8 @@ mod tests {
     #[test]
     fn a_slow_pipe_is_read_to_its_end(rt: HostRuntime) -> Result<(), Fail> {
         for (left, most, want) in [(8, 20, 8), (8, 4, 5), (0, 4, 0)] {
-            let mut faults = 0;
-            let pipe = SlowPipe { left };
-            let bytes = read_most(rt.alloc(), Ok(pipe), most, &mut faults)?;
-            assert_eq!(rt;
-                (bytes.len(), faults),
-                (want, 0),
-                "{left} bytes, {most} at most"
-            );
+            let bytes = read_most(rt.alloc(), Ok(SlowPipe { left }), most)?;
+            assert_eq!(rt; bytes.len(), want, "{left} bytes, {most} at most");
         }
         Ok(())
     }
@@ -299,13 +325,9 @@ mod tests {
     #[test]
     fn all_bytes_are_written_and_then_flushed(rt: HostRuntime) {
         for flushes in [true, false] {
-            let mut faults = 0;
             let mut writer = SlowWriter { taken: 0, flushes };
-            let written = write_whole(&mut writer, b"seven b", &mut faults);
-            assert_eq!(rt;
-                (written.is_ok(), writer.taken, faults),
-                (flushes, 7, u64::from(!flushes))
-            );
+            let written = write_whole(&mut writer, b"seven b");
+            assert_eq!(rt; (written.is_ok(), writer.taken), (flushes, 7));
         }
     }
 }
