@@ -4,13 +4,13 @@
     bench/refused.sh
 
 Each command below is run again and again: each time another of its allocations is refused, then another of its opens,
-reads and writes is an error, then another read or write of several bytes moves one, then another thread is not
+reads, writes, synchronisations and renamings is an error, then another read or write of several bytes moves one, then another thread is not
 started (`bench/refusing.c`). What `lay` stores is checked in the same way.
 
 Where memory is refused, the run has to end as the one in which nothing is refused, or with status 9 and no message.
 Where a file fails, it has to end with 7 or 8. Where a read or a write is short, or a thread is missing, it has to end as
-without. The files that are stored before the refused call have to stand whole, that of a failing call as before or
-in part, and all others as before; no message follows a failed store. Prints for each command how many calls were
+without. The files that are stored before the refused call have to stand whole and all others as before, with nothing
+beside them; no message follows a failed store. Prints for each command how many calls were
 refused, and how often each status came; ends with 1 where something failed, which it names.
 """
 import os
@@ -88,10 +88,9 @@ class Command:
         files = {it.name: it.read_bytes() for it in self.folder.iterdir()}
         return ended.returncode, ended.stdout, files, [int(it) for it in counts.read_text().split()]
 
-    def stands(self, files, whole, failing=None):
-        """Whether the first files, so many, are stored whole, and all others but the failing one are as before."""
-        wanted = self.before | {name: self.after[name] for name in self.stores[:whole]}
-        return set(files) == set(wanted) and all(files[name] == wanted[name] for name in wanted if name != failing)
+    def stands(self, files, whole):
+        """Whether the first files, so many, are stored whole, and all others are as before."""
+        return files == self.before | {name: self.after[name] for name in self.stores[:whole]}
 
     def is_whole(self, status, said, files):
         return (status, said, files) == (self.status, self.said, self.after)
@@ -105,9 +104,7 @@ class Command:
             return said == b"read fault\n" and self.stands(files, 0)
         if status == 8 and self.said.startswith(said) and self.stands(files, len(self.stores)):
             return True
-        return status == 8 and said == b"" and any(
-            self.stands(files, place, name) and (files[name] == self.before[name] or self.after[name].startswith(files[name]))
-            for place, name in enumerate(self.stores))
+        return status == 8 and said == b"" and any(self.stands(files, whole) for whole in range(len(self.stores)))
 
     def refuse(self, kind, count, is_lawful):
         """Refuses each call of a kind in turn, and gives how often each status came."""
@@ -122,7 +119,7 @@ class Command:
 
     def try_all(self, totals):
         print(f"{self.arguments}, {len(self.before['in'])} bytes: status {self.status}")
-        kinds = (("allocations", "REFUSE_ALLOCATION", self.is_whole_or_out_of_memory), ("opens, reads, writes", "REFUSE_FILE", self.is_failed),
+        kinds = (("allocations", "REFUSE_ALLOCATION", self.is_whole_or_out_of_memory), ("calls on files", "REFUSE_FILE", self.is_failed),
                  ("short ones", "SHORT_FILE", self.is_whole), ("threads", "REFUSE_THREAD", self.is_whole))
         for (name, kind, is_lawful), count in zip(kinds, self.counts):
             statuses = self.refuse(kind, count, is_lawful)
@@ -141,7 +138,7 @@ def check_of(row):
 
 
 def main():
-    totals = {name: Counter() for name in ("allocations", "opens, reads, writes", "short ones", "threads")}
+    totals = {name: Counter() for name in ("allocations", "calls on files", "short ones", "threads")}
     with tempfile.TemporaryDirectory() as top:
         folder = Path(top) / "run"
         folder.mkdir()

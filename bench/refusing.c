@@ -1,10 +1,10 @@
 // Loaded before the C library (LD_PRELOAD), it refuses one of the calls that the program itself makes:
 //   REFUSE_ALLOCATION=N  the Nth malloc or realloc gives no memory
-//   REFUSE_FILE=N        the Nth open, read or write is an error
+//   REFUSE_FILE=N        the Nth open, read, write, fsync or rename is an error
 //   SHORT_FILE=N         the Nth read or write of several bytes moves one
 //   REFUSE_THREAD=N      the Nth thread is not started
-// N counts from 1. What the C library calls for itself is neither counted nor refused. At the end the numbers of
-// calls of the four kinds are written to the file REFUSE_COUNTS, if one is named.
+// N counts from 1. What the C library calls for itself, and what goes to standard error, is neither counted nor
+// refused. At the end the numbers of calls of the four kinds are written to the file REFUSE_COUNTS, if one is named.
 #define _GNU_SOURCE
 #include <dlfcn.h>
 #include <errno.h>
@@ -96,6 +96,7 @@ ssize_t read(int file, void *bytes, size_t size) {
 
 ssize_t write(int file, const void *bytes, size_t size) {
     NEXT(write);
+    if (file == STDERR_FILENO) return next(file, bytes, size);
     REFUSE(files, refused_file, EIO, -1);
     if (size > 1 && is_turn(__builtin_return_address(0), &shorts, short_file)) size = 1;
     return next(file, bytes, size);
@@ -109,6 +110,18 @@ int open(const char *name, int flags, ...) {
     va_end(more);
     REFUSE(files, refused_file, EIO, -1);
     return next(name, flags, mode);
+}
+
+int fsync(int file) {
+    NEXT(fsync);
+    REFUSE(files, refused_file, EIO, -1);
+    return next(file);
+}
+
+int rename(const char *old, const char *new) {
+    NEXT(rename);
+    REFUSE(files, refused_file, EIO, -1);
+    return next(old, new);
 }
 
 int pthread_create(pthread_t *thread, const pthread_attr_t *how, void *(*begin)(void *), void *given) {
