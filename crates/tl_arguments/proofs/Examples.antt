@@ -1,6 +1,8 @@
--- The definition on command lines written by hand: above each is what the user writes, and what the command gets.
-use Rattle.std.proofs.Common.{◌≡◌, [], ◌∷◌, refl, codes}
+-- The definitions on command lines written by hand: above each is what the user writes, and what the command gets or whether
+-- progress is asked for.
+use Rattle.std.proofs.Common.{◌≡◌, true, false, [], ◌∷◌, refl, codes}
 use Rattle.tl_arguments.specs.Arranged.{arranged}
+use Rattle.tl_arguments.specs.Progress.{asks_for_progress}
 
 -- lay 80 t.html p --style frame
 -- lay 80 t.html p --style frame
@@ -56,3 +58,38 @@ no_names = refl
 -- nothing
 nothing : arranged [] ≡ []
 nothing = refl
+
+-- lay --progress 80 t.html p --csv --progress
+-- lay 80 t.html p --csv
+progress_left_out : arranged (codes "lay" ∷ codes "--progress" ∷ codes "80" ∷ codes "t.html" ∷ codes "p" ∷ codes "--csv"
+    ∷ codes "--progress" ∷ [])
+    ≡ codes "lay" ∷ codes "80" ∷ codes "t.html" ∷ codes "p" ∷ codes "--csv" ∷ []
+progress_left_out = refl
+
+-- lay 80 -- t.html --progress
+-- lay 80 t.html ./--progress
+progress_as_name : arranged (codes "lay" ∷ codes "80" ∷ codes "--" ∷ codes "t.html" ∷ codes "--progress" ∷ [])
+    ≡ codes "lay" ∷ codes "80" ∷ codes "t.html" ∷ codes "./--progress" ∷ []
+progress_as_name = refl
+
+-- batch --progress
+-- progress is asked for
+asked_at_the_end : asks_for_progress (codes "batch" ∷ codes "--progress" ∷ []) ≡ true
+asked_at_the_end = refl
+
+-- lay 80 --style frame --progress t.html p
+-- progress is asked for
+asked_between : asks_for_progress (codes "lay" ∷ codes "80" ∷ codes "--style" ∷ codes "frame" ∷ codes "--progress"
+    ∷ codes "t.html" ∷ codes "p" ∷ []) ≡ true
+asked_between = refl
+
+-- lay 80 t.html p --style --progress
+-- progress is not asked for: it is the style
+no_value_asks : asks_for_progress (codes "lay" ∷ codes "80" ∷ codes "t.html" ∷ codes "p" ∷ codes "--style"
+    ∷ codes "--progress" ∷ []) ≡ false
+no_value_asks = refl
+
+-- lay 80 -- t.html --progress
+-- progress is not asked for: it is the page
+no_name_asks : asks_for_progress (codes "lay" ∷ codes "80" ∷ codes "--" ∷ codes "t.html" ∷ codes "--progress" ∷ []) ≡ false
+no_name_asks = refl

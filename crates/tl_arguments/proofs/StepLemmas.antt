@@ -8,7 +8,7 @@ use Rattle.tl_arguments.specs.declared.role.Role.{Role}
 use Rattle.tl_arguments.specs.Arranged.{role_after, is_of, side_words, named, named_from}
 
 -- the words from a place on are the word of that place and those after it
-cut_at : (words : List (List ℕ)) (i : ℕ) (word : List ℕ) → i < length words → word ≡ get_or words i [] →
+pub cut_at : (words : List (List ℕ)) (i : ℕ) (word : List ℕ) → i < length words → word ≡ get_or words i [] →
     drop i words ≡ word ∷ drop (i + 1) words
 cut_at words i word within is = drop_more words i [] within ∙ ap (λ w. w ∷ drop (i + 1) words) (sym is)
 

@@ -1,6 +1,6 @@
 -- In which order a command gets the arguments that a user writes: those that are no options, as names are spelled, and then
--- the options. A word is the bytes of an argument. The rules are those of POSIX utilities (Utility Syntax Guidelines 9, 10,
--- 13), but that options may stand anywhere before `--`.
+-- the options. `--progress`, which the program itself takes, is left out. A word is the bytes of an argument. The rules are
+-- those of POSIX utilities (Utility Syntax Guidelines 9, 10, 13), but that options may stand anywhere before `--`.
 use Rattle.std.specs.Prelude.{ℕ, ◌+◌, Bool, true, false, ◌||◌, nat_eq, nat_lt, List, [], ◌∷◌, ◌++◌, length, get_or, take}
 use Rattle.std.specs.Prelude.{if◌then◌else◌, bytes_eq, codes}
 use Rattle.tl_arguments.specs.declared.order.Side.{Side}
@@ -8,7 +8,7 @@ use Rattle.tl_arguments.specs.declared.order.Side.TheVariants.{Names, Options}
 use Rattle.tl_arguments.specs.declared.order.TheConstants.{FEWEST_PLAIN}
 use Rattle.tl_arguments.specs.declared.names.TheConstants.{PLACE_OF_INPUT}
 use Rattle.tl_arguments.specs.declared.role.Role.{Role}
-use Rattle.tl_arguments.specs.declared.role.Role.TheVariants.{Plain, Flag, Valued, Value, End, Name}
+use Rattle.tl_arguments.specs.declared.role.Role.TheVariants.{Plain, Flag, Valued, Value, Progress, End, Name}
 
 -- ---- what a word is for
 
@@ -26,6 +26,7 @@ takes_value word =
 abbrev pub own_role : List ℕ → Role
 own_role word =
     if bytes_eq word (codes "--") then End
+    else if bytes_eq word (codes "--progress") then Progress
     else if takes_value word then Valued
     else if is_dashed word then Flag
     else Plain
@@ -38,25 +39,28 @@ role_after Name word = Name
 role_after Plain word = own_role word
 role_after Flag word = own_role word
 role_after Value word = own_role word
+role_after Progress word = own_role word
 
 -- ---- the two sides
 
--- it is an option, or the value of one
+-- it is an option of a command, or the value of one
 abbrev pub is_option : Role → Bool
 is_option Flag = true
 is_option Valued = true
 is_option Value = true
 is_option Plain = false
+is_option Progress = false
 is_option End = false
 is_option Name = false
 
--- it is neither, nor the `--` that ends them
+-- it is a command, a number or the name of a file: not one of those, nor `--progress`, nor the `--` that ends options
 abbrev pub is_name : Role → Bool
 is_name Plain = true
 is_name Name = true
 is_name Flag = false
 is_name Valued = false
 is_name Value = false
+is_name Progress = false
 is_name End = false
 
 -- a word for this is of that side

@@ -2,6 +2,7 @@
 
 ghost use Rattle.std.specs.Prelude.{◌≡◌, ◌↔◌, IsTrue};
 ghost use Rattle.tl_arguments.specs.Arranged.{own_role, role_after, is_option, is_name, is_dashed};
+ghost use Rattle.tl_arguments.specs.Progress.{is_progress};
 
 /// What an argument is for.
 #[derive(Clone, Copy)]
@@ -14,6 +15,8 @@ pub enum Role {
     Valued,
     /// The value of the option before it.
     Value,
+    /// `--progress`, which the program itself takes: it is no option of a command.
+    Progress,
     /// `--`, after which there are no options.
     End,
     /// What stands after `--`.
@@ -27,6 +30,7 @@ impl Role {
     {
         match word {
             "--" => Role::End,
+            "--progress" => Role::Progress,
             "--style" | "--break" | "--budget" | "--solver" | "--workers" | "--least" =>
                 Role::Valued,
             _ if is_dashed(word) => Role::Flag,
@@ -41,22 +45,29 @@ impl Role {
         match self {
             Role::Valued => Role::Value,
             Role::End | Role::Name => Role::Name,
-            Role::Plain | Role::Flag | Role::Value => Role::own(word),
+            Role::Plain | Role::Flag | Role::Value | Role::Progress => Role::own(word),
         }
     }
 
-    /// Whether it is an option or the value of one.
+    /// Whether it is an option of a command or the value of one.
     pub(crate) fn is_option(self) -> bool
         ensures { result ≡ is_option self }
     {
         matches!(self, Role::Flag | Role::Valued | Role::Value)
     }
 
-    /// Whether it is neither an option nor the `--` that ends them.
+    /// Whether it is a command, a number or the name of a file.
     pub(crate) fn is_name(self) -> bool
         ensures { result ≡ is_name self }
     {
         matches!(self, Role::Plain | Role::Name)
+    }
+
+    /// Whether it is `--progress`.
+    pub(crate) fn is_progress(self) -> bool
+        ensures { result ≡ is_progress self }
+    {
+        matches!(self, Role::Progress)
     }
 }
 

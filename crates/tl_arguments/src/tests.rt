@@ -1,6 +1,6 @@
-//! Command lines, and what commands get of them.
+//! Command lines, what commands get of them, which ask for progress, and what is wrong with some.
 
-use crate::arrange;
+use crate::{arrange, asks_for_progress, complaint};
 use std::alloc::{AllocError, Global};
 use std::test::Fail;
 
@@ -50,6 +50,58 @@ const LINES: &[(&str, &str)] = &[
     ("lay 7 t p --stlye frame", "lay 7 t p frame --stlye"),
     ("lay 7 t --html", "--html lay 7 t"),
     ("demo --csv 7", "--csv demo 7"),
+    ("lay 7 t p --progress", "lay 7 t p"),
+    ("--progress batch", "batch"),
+    (
+        "lay --progress 7 --csv --progress t p --style any",
+        "lay 7 t p --csv --style any",
+    ),
+    ("lay 7 t p -- --progress", "lay 7 t p ./--progress"),
+    (
+        "lay 7 t p --style --progress",
+        "lay 7 t p --style --progress",
+    ),
+    ("lay 7 t --progress", "lay 7 t"),
+];
+
+/// Command lines that ask for progress.
+const ASKING: &[&str] = &[
+    "--progress",
+    "--progress batch",
+    "lay 7 t p --progress",
+    "lay --progress 7 --csv --progress t p --style any",
+    "lay 7 t p --style --progress --progress",
+    "--progress -- lay 7 t p",
+];
+
+/// Command lines that do not.
+const NOT_ASKING: &[&str] = &[
+    "",
+    "lay 7 t p --csv",
+    "lay 7 t p -progress progress --progres --progress=",
+    "lay 7 t p --style --progress",
+    "lay 7 t p -- --progress",
+    "-- lay 7 --progress --progress",
+];
+
+/// Command lines beside what is wrong with them.
+const WRONG: &[(&str, &str)] = &[
+    (
+        "lay 7 t p --progres",
+        "unknown option '--progres': did you mean '--progress'?",
+    ),
+    (
+        "--prgress demo 7",
+        "unknown option '--prgress': did you mean '--progress'?",
+    ),
+    (
+        "lay 7 t p --style --progress",
+        "option '--style' does not take '--progress'",
+    ),
+    (
+        "lay 7 t p --progress --stile any",
+        "unknown option '--stile': did you mean '--style'?",
+    ),
 ];
 
 /// The arguments of a command line, each separated by one space from the next.
@@ -72,6 +124,31 @@ fn commands_get_names_and_then_options(rt: HostRuntime) -> Result<(), Fail> {
         let arranged = arrange(alloc, words.as_slice())?;
         let wanted = arguments(alloc, wanted)?;
         assert_eq!(rt; arranged.as_slice(), wanted.as_slice());
+    }
+    Ok(())
+}
+
+#[test]
+fn progress_is_asked_for_where_options_may_stand(rt: HostRuntime) -> Result<(), Fail> {
+    let alloc = rt.alloc();
+    for line in ASKING {
+        let words = arguments(alloc, line)?;
+        assert!(rt; asks_for_progress(words.as_slice()));
+    }
+    for line in NOT_ASKING {
+        let words = arguments(alloc, line)?;
+        assert!(rt; !asks_for_progress(words.as_slice()));
+    }
+    Ok(())
+}
+
+#[test]
+fn a_misspelled_option_is_named_beside_the_nearest(rt: HostRuntime) -> Result<(), Fail> {
+    let alloc = rt.alloc();
+    for (line, wanted) in WRONG {
+        let words = arguments(alloc, line)?;
+        let complaint = complaint(alloc, words.as_slice())?;
+        assert_eq!(rt; complaint.as_str(), *wanted);
     }
     Ok(())
 }

@@ -14,7 +14,8 @@ const COMMANDS: &[&str] = &["lay", "narrow", "tidy", "check", BATCH, "demo"];
 /// The command that answers requests: it is the only word.
 const BATCH: &str = "batch";
 
-/// The options of the program.
+/// The options of the commands, and `--progress`, which is never among the options of a command but
+/// may be meant by one.
 const OPTIONS: &[&str] = &[
     "--style",
     "--break",
@@ -25,6 +26,7 @@ const OPTIONS: &[&str] = &[
     "--head",
     "--least",
     "--html",
+    "--progress",
 ];
 
 /// In how many characters a word may differ from the one that is meant.
