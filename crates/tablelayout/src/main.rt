@@ -5,19 +5,23 @@
 ghost use Rattle.std.specs.Prelude.{◌≡◌, ◌≢◌};
 ghost use Rattle.std.specs.IoError.{error_kind};
 
+mod progress;
+
+use progress::Report;
 use std::alloc::AllocError;
 use std::env;
 use std::io::{self, BufReader, ErrorKind};
 use std::process::ExitCode;
 use std::rt::Files;
 use std::thread::Threads;
-use tl_arguments::{Question, VERSION, arrange, complaint};
-use tl_base::NoGate;
+use tl_arguments::{Question, VERSION, arrange, asks_for_progress, complaint};
+use tl_base::Gate;
 use tl_batch::{Ending, asks_for_batch, batch};
 use tl_command::{Ask, Command};
 use tl_exchange::Streams;
 use tl_files::{RealDesk, STANDARD_OUTPUT, shared_file, tell};
 use tl_program::{Status, run};
+use tl_solve::Watcher;
 
 /// What `--help` prints.
 const HELP: &str = "\
@@ -40,12 +44,16 @@ fn main(rt: HostRuntime) -> ExitCode {
     if let Some(question) = Question::asked(words.as_slice()) {
         return ExitCode::from(answer(&rt, &rt.stderr(), question).number());
     }
-    if asks_for_batch(words.as_slice()) {
-        return ExitCode::from(answer_requests(&rt).number());
-    }
     let Ok(arranged) = arrange(alloc, words.as_slice()) else {
         return ExitCode::from(Status::Memory.number());
     };
+    let report = Report {
+        rt: &rt,
+        is_asked: asks_for_progress(words.as_slice()),
+    };
+    if asks_for_batch(arranged.as_slice()) {
+        return ExitCode::from(answer_requests(&rt, &report).number());
+    }
     let Ok(clash) = clash_of(&rt, arranged.as_slice()) else {
         return ExitCode::from(Status::Memory.number());
     };
@@ -56,7 +64,7 @@ fn main(rt: HostRuntime) -> ExitCode {
         arranged.as_slice()
     };
     let mut desk = RealDesk::new(&rt, rt.stderr());
-    let status = run(&rt, alloc, asked, &mut desk, &NoGate);
+    let status = run(&rt, alloc, asked, &mut desk, &report);
     if status == Status::Usage.number() {
         complain(&rt, words.as_slice(), clash);
     }
@@ -93,11 +101,14 @@ fn shared_names(
 }
 
 /// Answers the requests of standard input on standard output.
-fn answer_requests(rt: &(impl Threads + Sync + Input + Print + AllocGlobal)) -> Ending {
+fn answer_requests(
+    rt: &(impl Threads + Sync + Input + Print + AllocGlobal),
+    report: &(impl Gate + Watcher),
+) -> Ending {
     match BufReader::new(rt.alloc(), rt.reader()) {
         Ok(reader) => {
             let mut streams = Streams::new(reader, io::writer(rt));
-            batch(rt, rt.alloc(), &mut streams, &NoGate)
+            batch(rt, rt.alloc(), &mut streams, report)
         }
         Err(_) => Ending::Memory,
     }
