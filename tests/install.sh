@@ -38,6 +38,7 @@ libexec/tablelayout/python/front
 libexec/tablelayout/python/start.py
 libexec/tablelayout/python/tablelayout
 libexec/tablelayout/tablelayout
+libexec/tablelayout/version
 share
 share/bash-completion
 share/bash-completion/completions
@@ -48,6 +49,7 @@ share/man/man1/tablelayout.1
 share/pandoc
 share/pandoc/filters
 share/pandoc/filters/tablelayout.lua" "in the folder"
+"$checkout/tablelayout" --version | expect "$to/libexec/tablelayout/version"
 grep -lrF "$room" "$to" | expect_text "$to/libexec/tablelayout/folders" "of files that name a folder"
 
 # From another folder, by a link, as a shell finds it.
@@ -58,6 +60,10 @@ PATH=$room/bin:$PATH
 cd "$room/tables" || exit 1
 echo '<table><tr><td>aaa bbb<td>cc dd ee</table>' >in.html
 printf '<table>\n<tr><td><img>' >refused.html
+PATH=$room/none all_of /bin/sh "$to/bin/tablelayout" --version |
+    expect_text "$(cat "$to/libexec/tablelayout/version")"$'\nstatus 0' "by --version with nothing in the path"
+tablelayout --version >/dev/full
+echo "status $?" | expect_text "status 8" "by --version on a full device"
 tablelayout | head -n 1 | expect_text "Lays an HTML table out on a page of fixed-width text, as low as any can be." "without arguments"
 all_of tablelayout show in.html --width 12 | expect_text $'aaa cc dd\nbbb ee   \nstatus 0' "by show"
 all_of tablelayout show --strict <refused.html | expect_text $'bad input: unknown element at 16\nline 2, column 9:\n<tr><td><img>\n        ^\nstatus 5' "by show of a refusal"
@@ -90,7 +96,8 @@ touch "$to"/libexec/tablelayout/{tl_program,show,place.awk,record.awk} "$to/$MOD
 all_of "$checkout/tablelayout" install "$to/" | expect_text "status 0" "by a second install"
 names "$to/libexec/tablelayout" | grep -v / | expect_text "folders
 python
-tablelayout" "over an earlier version"
+tablelayout
+version" "over an earlier version"
 modules "$to/$MODULES" | expect "$room/modules" "as modules over an earlier version"
 names "$to/$MODULES/__pycache__" | sed 's/\..*/.py/' | expect <(grep '\.py$' "$room/modules") "compiled over an earlier version"
 all_of "$checkout/tablelayout" uninstall "$to" | expect_text "status 0" "by uninstall"

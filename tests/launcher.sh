@@ -54,6 +54,39 @@ for words in "" --help -h; do
     "$top/tablelayout" $words | cmp - <("$top/tablelayout" help) || touch "$failed"
 done
 
+# The version names the commit, with `+` where a file that git knows is changed, and proves nothing.
+make_checkout outer/versioned
+version="tablelayout $(sed -n 's/^version = "\(.*\)"$/\1/p' "$top/integrations/python/pyproject.toml")"
+is_version() {
+    all_of "$checkout/tablelayout" --version | expect_text "$1"$'\nstatus 0' "by --version $2"
+}
+is_version "$version" "without a repository"
+if command -v git >/dev/null; then
+    export GIT_AUTHOR_NAME=a GIT_AUTHOR_EMAIL=b GIT_COMMITTER_NAME=c GIT_COMMITTER_EMAIL=d
+    for folder in "$room/outer" "$checkout"; do
+        git init -q -b main "$folder"
+        [ "$folder" = "$checkout" ] || git -C "$folder" commit -q --allow-empty -m first
+        is_version "$version" "in $folder without a commit of its own"
+    done
+    git -C "$checkout" add .
+    git -C "$checkout" commit -q -m first
+    commit=$(git -C "$checkout" rev-parse --short HEAD)
+    is_version "$version ($commit)" "in a repository"
+    touch "$checkout/page.txt" "$checkout/crates.txt"
+    is_version "$version ($commit)" "beside a new file"
+    GIT_DIR=$room/outer/.git is_version "$version ($commit)" "in a hook of another repository"
+    mkdir "$room/no_git"
+    ln -s "$(command -v sed)" "$room/no_git/sed"
+    PATH=$room/no_git all_of /bin/sh "$checkout/tablelayout" --version | expect_text "$version"$'\nstatus 0' "by --version without git"
+    echo >>"$checkout/crates.txt"
+    is_version "$version ($commit+)" "of a changed file"
+else
+    skip "there is no git, so no version names a commit"
+fi
+"$checkout/tablelayout" --version >/dev/full 2>/dev/null
+echo "status $?" | expect_text "status 8" "by --version on a full device"
+asked | expect_text "" "by rt for the version"
+
 # What is no command line ends before anything is proved.
 make_checkout judged
 # Its libraries are proved by another script that only says what it is asked for.

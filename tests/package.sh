@@ -45,6 +45,7 @@ echo '<table><tr><td>aaa bbb<td>cc dd ee</table>' >in.html
 printf 'a,b\nc,"d e"\n' >in.csv
 system=$PATH
 PATH=$root/usr/bin:$PATH
+all_of tablelayout --version | expect_text "$("$top/tablelayout" --version)"$'\nstatus 0' "by --version"
 all_of tablelayout show in.html --width 12 | expect_text $'aaa cc dd\nbbb ee   \nstatus 0' "by show"
 all_of tablelayout show in.csv | expect_text $'a b  \nc d e\nstatus 0' "by show of CSV"
 all_of tablelayout lessopen in.csv | expect_text $'a b  \nc d e\nstatus 0' "by lessopen"
