@@ -1,37 +1,19 @@
 """`show` and `page`: what they print, on which output, and how they end."""
-import fcntl
 import os
-import pty
 import signal
-import struct
 import subprocess
 import sys
 import tempfile
-import termios
 import unittest
 from pathlib import Path
 
 import common
+from common import FRONT, START, environment_of_test, script
 
-FRONT = common.TOP / "integrations" / "python" / "front"
-START = [sys.executable, "-S", str(FRONT.parent / "start.py")]
 EXAMPLES, DRAWN = common.TOP / "examples", common.TOP / "tests" / "show"
 SHIPS = b"name;depth;note\nLeith;9;deep\nAyr;4\n"
 PAGE = b"""<!DOCTYPE html><title>x</title><p>before<table><caption>Ports</caption><tr><th>name<th>depth<tr><td>Leith<td>9</table>
 <ul><li>between</ul><table><tr><td>one<td><img alt=two></table>"""
-
-
-def environment_of_test():
-    """The environment, but for what would change a page."""
-    return {name: value for name, value in os.environ.items() if name not in ("COLUMNS", "TABLELAYOUT", "TABLELAYOUT_PYTHON", "NO_COLOR")}
-
-
-def script(room, name, text):
-    """A script of a shell, as a program."""
-    path = Path(room) / name
-    path.write_text("#!/bin/sh\n" + text)
-    path.chmod(0o755)
-    return str(path)
 
 
 class Run:
@@ -314,29 +296,7 @@ class Show(unittest.TestCase):
 class Terminal(unittest.TestCase):
     def on_terminal(self, columns, *arguments, **environment):
         """What appears on a terminal of so many columns."""
-        return self.appears(columns, [*START, "show", *map(str, arguments)], **environment)
-
-    def appears(self, columns, command, **environment):
-        """What a command prints on the terminal that it runs on, of so many columns."""
-        ours, theirs = pty.openpty()
-        fcntl.ioctl(theirs, termios.TIOCSWINSZ, struct.pack("HHHH", 24, columns, 0, 0))
-        environment = {**environment_of_test(), "TABLELAYOUT": common.PROGRAM, "TERM": "xterm", "TABLELAYOUT_OPTIONS": "", **environment}
-
-        def take_terminal():
-            os.setsid()
-            fcntl.ioctl(theirs, termios.TIOCSCTTY, 0)
-
-        ran = subprocess.Popen(command, stdin=subprocess.DEVNULL, stdout=theirs, stderr=theirs, env=environment, preexec_fn=take_terminal)
-        os.close(theirs)
-        came = b""
-        try:
-            while True:
-                came += os.read(ours, 65536)
-        except OSError:
-            pass  # All who might write have ended.
-        os.close(ours)
-        ran.wait()
-        return came.decode().replace("\r\n", "\n")
+        return common.OnTerminal(columns, [*START, "show", *map(str, arguments)], **environment).end()
 
     def test_widths(self):
         for columns, name in ((40, "stock_40.txt"), (120, "stock_120.txt"), (900, "stock_120.txt")):
@@ -351,7 +311,7 @@ class Terminal(unittest.TestCase):
 
     def test_width_in_pipes(self):
         command = f"cat {EXAMPLES / 'stock.html'} | {' '.join(START)} show --verbose 2>&1 | cat"
-        self.assertEqual(self.appears(40, ["sh", "-c", command]), (DRAWN / "stock_40.txt").read_text())
+        self.assertEqual(common.OnTerminal(40, ["sh", "-c", command]).end(), (DRAWN / "stock_40.txt").read_text())
 
 
 class Viewers(unittest.TestCase):

@@ -3,8 +3,9 @@ from __future__ import annotations
 
 import os
 import time
-from typing import List, Tuple
+from typing import List, Optional, Tuple
 
+from .error_lines import ErrorLines, Take
 from .protocol import Answer, BadAnswer, Ended, read_answer
 
 _BLOCK_BYTES = 1 << 16
@@ -19,17 +20,29 @@ class CoProcess:
     It is started without ``subprocess``, which takes as long to load as many tables take to lay out.
     """
 
-    def __init__(self, command: List[str]) -> None:
-        """Starts the command. Raises OSError if it cannot be started."""
+    def __init__(self, command: List[str], take_error: Optional[Take] = None) -> None:
+        """Starts the command. Raises OSError if it cannot be started.
+
+        ``take_error`` is given each line that it writes on standard error, as it comes; without it that is the one of this
+        process.
+        """
         self._is_over = True
         self._open: List[int] = []
         self._came = bytearray()
+        self._errors: Optional[ErrorLines] = None
         its_input, self._to = self._pipe()
         self._from, its_output = self._pipe()
-        actions = [(os.POSIX_SPAWN_DUP2, its_input, 0), (os.POSIX_SPAWN_DUP2, its_output, 1)]
+        its_ends = [its_input, its_output]
+        if take_error:
+            errors, its_errors = self._pipe()
+            its_ends.append(its_errors)
+        actions = [(os.POSIX_SPAWN_DUP2, end, number) for number, end in enumerate(its_ends)]
         self.pid = os.posix_spawnp(command[0], command, os.environ, file_actions=actions)
         self._is_over = False
-        for end in (its_input, its_output):
+        if take_error:
+            self._open.remove(errors)
+            self._errors = ErrorLines(errors, take_error)
+        for end in its_ends:
             self._open.remove(end)
             os.close(end)
 
@@ -48,13 +61,19 @@ class CoProcess:
             return read_answer(self._read_line, self._read_bytes)
         except BadAnswer as fault:
             raise Ended(str(fault)) from fault
+        finally:
+            if self._errors:
+                self._errors.take_all()
 
     def _send(self, request: bytes) -> None:
         left = memoryview(request)
         while left:
-            left = left[os.write(self._to, left):]
+            most = self._errors.wait_to_write(self._to) if self._errors else len(left)
+            left = left[os.write(self._to, left[:most]):]
 
     def _read_more(self) -> None:
+        if self._errors:
+            self._errors.wait_to_read(self._from)
         block = os.read(self._from, _BLOCK_BYTES)
         if not block:
             raise Ended("the program ended in the middle of a request")
@@ -83,6 +102,11 @@ class CoProcess:
         while self._open:
             os.close(self._open.pop())
 
+    def _close_errors(self) -> None:
+        if self._errors:
+            self._errors.close()
+            self._errors = None
+
     def _wait(self, options: int) -> bool:
         """Whether the process has ended, which is waited for unless the options say WNOHANG."""
         if not self._is_over:
@@ -108,10 +132,14 @@ class CoProcess:
         if not self._wait(os.WNOHANG):
             os.kill(self.pid, _KILLED)
             self._wait(0)
+        self._close_errors()
 
     def forget(self) -> None:
         """Lets go of a process of the parent, after a fork."""
         self._close_pipes()
+        if self._errors:
+            self._errors.forget()
+            self._errors = None
         # It is no child of this process, so there is nothing to wait for.
         self._is_over = True
 

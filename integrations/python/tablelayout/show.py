@@ -2,7 +2,7 @@
 from __future__ import annotations
 
 import argparse
-from typing import List, NamedTuple, Optional, Sequence
+from typing import TYPE_CHECKING, List, NamedTuple, Optional, Sequence
 
 from . import terminal
 from .arguments import STATUS_USAGE, Parser, whole_number, width_of_page, widths_of_columns, with_defaults
@@ -16,8 +16,11 @@ from .kinds import CSV, HTML, JSON, Kind, kind_by_content, kind_by_name
 from .laying import BREAKING, Shown, Way, lay_item
 from .layouter import Layouter
 from .records import NAMED_DELIMITERS, find_delimiter
-from .sources import Options, Source, csv_words
+from .sources import PROGRESS, Options, Source, csv_words
 from .texts import has_marks
+
+if TYPE_CHECKING:
+    from .progress import ProgressLine
 
 STATUS_FAILED, STATUS_BAD_INPUT, STATUS_LIMIT, STATUS_READ_FAULT, STATUS_WRITE_FAULT, STATUS_MEMORY = 1, 5, 6, 7, 8, 9
 
@@ -55,6 +58,7 @@ def parser() -> Parser:
     it.add_argument("--solver", metavar="SEARCH", help="which search finds the page")
     it.add_argument("--workers", type=whole_number, metavar="K", help="how many workers search at one time")
     it.add_argument("--html", action="store_true", help="the page as HTML with its widths")
+    it.add_argument("--progress", action="store_true", help="how far a search has come, not on a terminal alone")
     it.add_argument("--quiet", dest="is_verbose", action="store_const", const=False, help="print errors alone")
     it.add_argument("--verbose", dest="is_verbose", action="store_const", const=True,
                     help="print the program's message below each page, in pipes too")
@@ -118,8 +122,8 @@ class _Show:
         self._layouter = layouter
         self._room = terminal.columns()
         self._says_numbers = terminal.is_terminal() if given.is_verbose is None else given.is_verbose
-        more = ("--html",) if given.html else ()
-        options = Options(given.style, given.breaking or BREAKING, given.budget, given.solver, given.workers, more)
+        more = [name for name, is_given in (("--html", given.html), (PROGRESS, given.progress)) if is_given]
+        options = Options(given.style, given.breaking or BREAKING, given.budget, given.solver, given.workers, tuple(more))
         records = False if given.html or given.strict else given.records
         self._way = Way(given.width or self._room, options, records, terminal.has_bold() and not given.html)
 
@@ -214,12 +218,21 @@ def _line_of(number: int, item: Item) -> str:
     return f"{number:3}  {item.rows:,} x {item.width:,}  {words}".rstrip() + "\n"
 
 
+def _progress_line(given: argparse.Namespace) -> "Optional[ProgressLine]":
+    """What draws how far a search has come: on a terminal, where more than errors is wanted."""
+    if not terminal.has_errors_on_terminal() or given.is_verbose is False and not given.progress:
+        return None
+    from .progress import ProgressLine
+
+    return ProgressLine()
+
+
 def main(arguments: Sequence[str]) -> int:
     """Runs ``show`` and returns its status: that of ``lay``, and with several tables the greatest."""
     known = parser()
     given = known.parse_args(with_defaults(known, arguments))
     try:
-        with Layouter() as layouter:
+        with Layouter(progress=_progress_line(given)) as layouter:
             return _Show(given, layouter).run()
     except _Fault as fault:
         terminal.write_message(fault.lines)

@@ -39,6 +39,16 @@ def is_terminal() -> bool:
     return os.isatty(1)
 
 
+def has_errors_on_terminal() -> bool:
+    """Whether what is written on standard error appears on a terminal."""
+    return os.isatty(2)
+
+
+def columns_of_errors() -> int:
+    """The width of the terminal on which standard error appears."""
+    return _columns_of(2) or _COLUMNS_OTHERWISE
+
+
 def has_bold() -> bool:
     """Whether bold text is shown: on a terminal, unless NO_COLOR is set."""
     return is_terminal() and not os.environ.get("NO_COLOR") and os.environ.get("TERM", "dumb") != "dumb"
@@ -52,9 +62,14 @@ def write_page(data: bytes) -> None:
         left = left[os.write(1, left):]
 
 
-def write_message(lines: Sequence[str]) -> None:
-    """Writes lines on standard error, if it can be written."""
+def write_error(data: bytes) -> None:
+    """Writes bytes on standard error, if it can be written."""
     try:
-        os.write(2, ("\n".join(lines) + "\n").encode("utf-8", "replace"))
+        os.write(2, data)
     except OSError:
         pass
+
+
+def write_message(lines: Sequence[str]) -> None:
+    """Writes lines on standard error, if it can be written."""
+    write_error(("\n".join(lines) + "\n").encode("utf-8", "replace"))
