@@ -107,6 +107,40 @@ is_told "tablelayout: command 'lay' $NAMES" lay 10 in.html
 is_told "tablelayout: command 'check' $NAMES" check 10 - -
 is_told "tablelayout: command 'demo' $NAMES" demo 1 in.html
 
+# The launcher reads a socket too, and leaves it alone where IN is a file: this one does not end.
+cat >../on_socket.py <<'PYTHON'
+import socket
+import subprocess
+import sys
+
+ours, theirs = socket.socketpair()
+if sys.argv[1]:
+    with open(sys.argv[1], "rb") as file:
+        ours.sendall(file.read())
+    ours.shutdown(socket.SHUT_WR)
+ran = subprocess.run(sys.argv[2:], stdin=theirs, timeout=60)
+theirs.setblocking(False)
+try:
+    print("left", len(theirs.recv(9)))
+except BlockingIOError:
+    print("waits")
+sys.exit(ran.returncode)
+PYTHON
+on_socket() {
+    local wanted=$1
+    shift
+    python3 ../on_socket.py "$@" >../said 2>&1
+    echo "status $?" >>../said
+    expect_text "$wanted" "on a socket by $*" <../said
+}
+on_socket "$PAGE${LOWEST}left 0"$'\nstatus 0' in.html "$top/tablelayout" lay 10 - - --style frame
+on_socket "$PAGE${LOWEST}left 0"$'\nstatus 0' in.csv "$top/tablelayout" --csv lay --style frame 10 /dev/stdin -
+on_socket "${LOWEST}left 0"$'\nstatus 0' cert "$top/tablelayout" check 10 in.html - --style frame
+on_socket "$PAGE${LOWEST}left 0"$'\nstatus 0' in.html "$top/tablelayout" preview --style frame 10 -
+on_socket $'aa bb c\nleft 0\nstatus 0' in.html "$top/tablelayout" show --width 10
+on_socket "$PAGE${LOWEST}waits"$'\nstatus 0' '' "$top/tablelayout" lay 10 in.html - --style frame
+on_socket $'usage\n'"tablelayout: command 'lay' does not take the number '0'"$'\nwaits\nstatus 2' '' "$top/tablelayout" lay 0 - -
+
 # What is asked of the program itself, whose version is that of the Python package. The launcher names the commit too.
 "$program" --version | expect_text \
     "tablelayout $(sed -n 's/^version = "\(.*\)"$/\1/p' "$top/integrations/python/pyproject.toml")" "by --version"

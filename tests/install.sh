@@ -17,6 +17,12 @@ cp -p "$program" "$checkout/crates/tablelayout/out"
 PATH=/usr/bin:/bin
 unset DESTDIR
 
+# What is printed on standard output, and the status.
+told_by() {
+    "$@" 2>/dev/null
+    echo "status $?"
+}
+
 to=$room/empty
 mkdir "$to"
 all_of "$checkout/tablelayout" install "$to" | expect_text "status 0" "by install"
@@ -88,7 +94,11 @@ if command -v pandoc >/dev/null; then
 else
     skip "there is no pandoc, so the installed filter is not tried"
 fi
-all_of tablelayout uninstall "$to" | expect_text $'usage\nstatus 2' "by uninstall without a checkout"
+for name in install uninstall; do
+    all_of tablelayout "$name" "$to" | expect_text $'usage\n'"tablelayout: command '$name' is there in a checkout alone"$'\nstatus 2' "by $name without a checkout"
+done
+all_of tablelayout shwo in.html | expect_text $'usage\n'"tablelayout: unknown command 'shwo': did you mean 'show'?"$'\nstatus 2' "by a wrong command"
+all_of tablelayout lay in.html | expect_text $'usage\n'"tablelayout: command 'lay' does not take the number 'in.html'"$'\nstatus 2' "by a wrong number"
 mv "$room/away" "$checkout"
 
 # Installed a second time, over what an earlier version left, it is still removed with each folder that was made for it.
@@ -106,7 +116,7 @@ all_of "$checkout/tablelayout" uninstall "$to" | expect_text "tablelayout: it is
 status 1" "by a second uninstall"
 for words in install uninstall "install $to $to"; do
     # shellcheck disable=SC2086
-    all_of "$checkout/tablelayout" $words | expect_text $'usage\nstatus 2' "by $words"
+    told_by "$checkout/tablelayout" $words | expect_text $'usage\nstatus 2' "by $words"
 done
 
 # Folders that were there stay, and so does one that holds something else by then.

@@ -91,13 +91,53 @@ asked | expect_text "" "by rt for the version"
 make_checkout judged
 # Its libraries are proved by another script that only says what it is asked for.
 printf '#!/bin/sh\necho "libraries $*" >>"%s/asked"\n' "$room" >"$checkout/tools/prove_libraries.py"
-for words in lya lay "lay 9" "lay 9 in" "narrow 9 in" "tidy 9 in" "check 9 in" demo "demo 1 2" "preview 9" preview \
-    install "install a b" uninstall in.html "lay 9 in --csv" "tidy 9 --in page" "lay 9 in --style frame" "--csv lay 9 in" \
-    "--csv show in" "--style lay 9 in page" "-- lay 9 in" -- "batch in" "batch --workers 4" "--csv batch"; do
+# The arguments are refused, and standard error says why in one line.
+is_refused() {
+    local wanted=$1
+    shift
+    "$checkout/tablelayout" "$@" >"$room/told" 2>"$room/said" </dev/null
+    echo "status $?" >>"$room/told"
+    expect_text $'usage\nstatus 2' "by $*" <"$room/told"
+    expect_text "tablelayout: $wanted" "on standard error by $*" <"$room/said"
+}
+for words in lay "lay 9" "lay 9 in" "lay 9 in --csv" "lay 9 in --style frame" "--csv lay 9 in" "-- lay 9 in"; do
     # shellcheck disable=SC2086
-    all_of "$checkout/tablelayout" $words | expect_text $'usage\nstatus 2' "by $words"
+    is_refused "command 'lay' needs more words: 'tablelayout help' lists them" $words
 done
-all_of "$checkout/tablelayout" install "" | expect_text $'usage\nstatus 2' "by install of no name"
+for name in narrow tidy check; do
+    is_refused "command '$name' needs more words: 'tablelayout help' lists them" "$name" 9 in
+done
+for words in demo "demo 1 2"; do
+    # shellcheck disable=SC2086
+    is_refused "command 'demo' needs one number" $words
+done
+for words in preview "preview 9" "preview 9 in page" "preview 9 --style in" "--csv preview 9 in"; do
+    # shellcheck disable=SC2086
+    is_refused "command 'preview' comes first, and needs a number and the name of one file" $words
+done
+for words in "batch in" "batch --workers 4" "--csv batch"; do
+    # shellcheck disable=SC2086
+    is_refused "command 'batch' takes no other words" $words
+done
+is_refused "command 'install' needs the name of one folder" install
+is_refused "command 'install' needs the name of one folder" install ""
+is_refused "command 'install' needs the name of one folder" install a b
+is_refused "command 'uninstall' needs the name of one folder" uninstall
+is_refused "command 'show' comes before its options" --csv show in
+is_refused "no command: 'tablelayout help' lists them" --
+is_refused "no command: 'tablelayout help' lists them" --csv
+is_refused "unknown command '9'" --style lay 9 in page
+is_refused "unknown command 'in.html'" in.html
+is_refused "unknown command 'lya': did you mean 'lay'?" lya
+is_refused "unknown command 'shwo': did you mean 'show'?" shwo in
+is_refused "unknown command 'pge': did you mean 'page'?" pge in --stlye
+is_refused "unknown command 'instal': did you mean 'install'?" instal a
+is_refused "unknown command 'tset'" tset
+is_refused "unknown option '--stlye': did you mean '--style'?" lay 9 in page --stlye frame
+is_refused "unknown option '--ccsv': did you mean '--csv'?" --ccsv lay 9 in page
+is_refused "unknown option '--style=frame'" check 9 in cert --style=frame
+is_refused "unknown option '--in'" tidy 9 --in page
+is_refused "unknown option '--rows'" preview 9 in --rows
 for words in lya help; do
     "$checkout/tablelayout" $words >/dev/full 2>/dev/null
     echo "status $?" | expect_text "status 8" "by $words on a full device"
@@ -114,10 +154,19 @@ export TMPDIR=$room/temporary
 told_by "$checkout/tablelayout" preview 9 "$top/examples/spans.html" --html |
     expect_text $'tried lay 9 in /dev/stdout --html\nstatus 0' "by preview before the program is built"
 asked | expect_text "try tablelayout" "by rt for a preview"
-for name in "$room/none" "$room" -; do
+for name in "$room/none" "$room"; do
     all_of "$checkout/tablelayout" preview 9 "$name" </dev/null | expect_text $'read fault\nstatus 7' "by preview of no file"
 done
 asked | expect_text "" "by rt for no file"
+# Options stand anywhere, and `-` is standard input.
+for words in "9 IN --html --style frame" "--html 9 --style frame IN" "--html --style frame -- 9 IN" "--style - 9 IN --html"; do
+    for name in - /dev/stdin; do
+        # shellcheck disable=SC2086
+        echo '<table>' | told_by "$checkout/tablelayout" preview ${words/IN/$name} |
+            expect_text "tried lay ${words/IN/in /dev/stdout}"$'\nstatus 0' "by preview ${words/IN/$name}"
+        asked | expect_text "try tablelayout" "by rt for preview ${words/IN/$name}"
+    done
+done
 names "$TMPDIR" | expect_text "" "and left by previews"
 
 # Who shows a file for another program waits for no proof.
@@ -135,6 +184,16 @@ for words in "lay 9 in page --style" "narrow 9 in page" "check 9 in cert" "demo 
     all_of "$checkout/tablelayout" $words | expect_text "program $words"$'\nstatus 0' "by $words"
 done
 all_of "$checkout/tablelayout" preview 9 in --html | expect_text $'program lay 9 in /dev/stdout --html\nstatus 0' "by preview"
+all_of "$checkout/tablelayout" preview --style 9 9 --head -- value,--in | expect_text $'program lay --style 9 9 --head -- value,--in /dev/stdout\nstatus 0' "by preview in another order"
+# Each option is known before the program is built.
+"$checkout/tablelayout" help | sed -n '/^Options stand/,/^With show/s/^  \(--[a-z]*\).*/\1/p' >"$room/options"
+[ "$(grep -c -- -- "$room/options")" -ge 9 ] || touch "$failed"
+while read -r name; do
+    rm "$checkout/crates/tablelayout/out/tablelayout"
+    told_by "$checkout/tablelayout" lay 9 in page "$name" value cert </dev/null |
+        expect_text "program lay 9 in page $name value cert"$'\nstatus 0' "by lay with $name"
+    asked | expect_text "$PROVED" "by rt for lay with $name"
+done <"$room/options"
 (cd "$checkout" && sh tablelayout demo 1) | expect_text "program demo 1" "without a folder in its name"
 ln -s "$checkout/tablelayout" "$room/bin/linked"
 linked demo 1 | expect_text "program demo 1" "by a link"

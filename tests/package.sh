@@ -53,7 +53,8 @@ all_of tablelayout lay 12 in.html page.txt page.cert | expect_text $'lowest heig
 all_of tablelayout check 12 in.html page.cert | expect_text $'lowest height 2 width 10\nstatus 0' "by check"
 { echo "lay 12 43" && cat in.html; } | all_of tablelayout batch |
     expect_text $'0 22 0 0 0\nlowest height 2 width 10\naaa  cc dd\nbbb  ee   \nstatus 0' "by batch"
-all_of tablelayout install "$room/none" | expect_text $'usage\nstatus 2' "by install"
+all_of tablelayout install "$room/none" |
+    expect_text $'usage\n'"tablelayout: command 'install' is there in a checkout alone"$'\nstatus 2' "by install"
 PATH=$system PYTHONPATH=$root/usr/lib/python3/dist-packages all_of python3 -c 'import tablelayout; print(tablelayout.lay([["aaa bbb", "cc dd ee"]], 12))' |
     expect_text $'aaa  cc dd\nbbb  ee   \nstatus 0' "by the Python package"
 if command -v pandoc >/dev/null; then

@@ -78,20 +78,26 @@ prove_and_build() {
     rm -f "$log"
 }
 
-# Prints the page by `rt try`, which compiles the sources with checks and proves nothing.
+# Prints the bytes of IN. One byte above the limit of a file is as good as all: the program says the same.
+read_in() {
+    case $in in
+    - | /dev/stdin) head -c 1048577 ;;
+    *) head -c 1048577 <"$in" ;;
+    esac
+}
+
+# Prints what `lay` does for these words, by `rt try`, which compiles the sources with checks and proves nothing. The words
+# name IN `in`.
 preview_unbuilt() {
-    width=$1 in=$2
-    shift 2
     room=$(mktemp -d)
     trap 'rm -rf "$room"' EXIT
     trap 'exit 130' INT
     trap 'exit 143' TERM
-    # One byte above the limit of a file is as good as all: the program says the same.
-    if ! head -c 1048577 <"$in" >"$room/in"; then
+    if ! read_in >"$room/in"; then
         echo "read fault"
         exit 7
     fi 2>/dev/null
-    (cd "$top/crates/tablelayout" && rt try --data "in=$room/in" -- lay "$width" in /dev/stdout "$@" </dev/null) 2>"$room/log"
+    (cd "$top/crates/tablelayout" && rt try --data "in=$room/in" -- lay "$@" </dev/null) 2>"$room/log"
     status=$?
     grep -q "^run=ended" "$room/log" || { trap - EXIT && give_up "the preview came to no end" "$room/log"; }
     echo "tablelayout: checked for faults while it ran, and not proved; 'lay' proves the program before it runs" >&2
