@@ -235,9 +235,36 @@ class Show(unittest.TestCase):
                 self.assertEqual((ran.status, ran.text, ran.said.splitlines()[0]), (2, "", "usage"))
         self.assertEqual(show("--rows", "1", data=PAGE).status, 2)
         self.assertEqual(show("--table", "0", data=PAGE).status, 2)
-        self.assertEqual(show("--style", "none", data=b"<table><tr><td>a</table>").status, 2)
+        for arguments, word in ((["--style", "none"], "none"), (["--solver", "bset"], "bset"), (["--budget", "100001"], "100001"), (["--break", "09"], "09"),
+                                (["--workers", "0"], "0"), (["--workers", "17"], "17"), (["--least", "1,x"], "x"), (["--delimiter", "ab"], "ab")):
+            with self.subTest(arguments=arguments):
+                ran = show(*arguments, data=b"<table><tr><td>a</table>")
+                self.assertEqual((ran.status, ran.text, ran.said.count("\n")), (2, "", 2))
+                self.assertRegex(ran.said, rf"\Ausage\ntablelayout show: argument {arguments[0]}: .*{word}")
         ran = show(TABLELAYOUT="/no/such/program")
         self.assertEqual((ran.status, ran.said), (1, "there is no program /no/such/program that can be run\n"))
+
+    def test_words_that_are_not_known(self):
+        for command, arguments, wanted in (
+            ("show", ["--stlye", "frame", "a"], "unknown option '--stlye': did you mean '--style'?"),
+            ("show", ["a", "--brek", "3"], "unknown option '--brek': did you mean '--break'?"),
+            ("show", ["--version"], "unknown option '--version'"), ("show", ["-x"], "unknown option '-x'"),
+            ("show", ["a", "b"], "one file is read, and 'b' is one more"), ("show", ["--", "a", "--stlye"], "one file is read, and '--stlye' is one more"),
+            ("page", ["--form", "html", "a"], "unknown option '--form': did you mean '--from'?"),
+            ("textconv", ["--width", "3", "a"], "unknown option '--width': did you mean '--widths'?"), ("lessopen", [], "it takes one file"),
+        ):
+            with self.subTest(arguments=arguments):
+                ran = Run(command, *arguments)
+                self.assertEqual((ran.status, ran.text, ran.said), (2, "", f"usage\ntablelayout {command}: {wanted}\n"))
+
+    def test_options_in_any_order(self):
+        path, framed = self.file("a.csv", SHIPS), "+-----+-----+----+"
+        (self.room / "--a.csv").write_bytes(SHIPS)
+        for arguments in ([path, "--style", "frame", "--head"], ["--style", "frame", path, "--head"], ["--style=frame", "--head", path],
+                          ["--head", "--style", "frame", "--", path], ["--style", "frame", "--", "--a.csv"]):
+            with self.subTest(arguments=arguments):
+                ran = show(*arguments, cwd=self.room)
+                self.assertEqual((ran.lines[0], ran.status, ran.said), (framed, 0, ""))
 
     def test_options_that_are_given_count(self):
         self.assertEqual(show("--verbose", "--markup", options="--quiet --csv", data=b"<table><tr><td>a</table>").said, "lowest height 1 width 1\n")

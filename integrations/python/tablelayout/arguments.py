@@ -3,11 +3,14 @@ from __future__ import annotations
 
 import argparse
 import os
-from typing import List, NoReturn, Sequence
+from os.path import commonprefix
+from typing import Callable, List, NoReturn, Optional, Sequence
 
 from . import terminal
 
 STATUS_USAGE = 2
+# In how many characters a word may differ from the one that is meant, as for the program.
+_MOST_DIFFERENCES = 2
 MOST_WIDTH, _MOST_WIDTHS = 500, 60
 
 
@@ -18,11 +21,38 @@ class _Help(argparse.HelpFormatter):
         super().__init__(prog, max_help_position=28, width=terminal.columns() - 2)
 
 
+def _differences(one: str, other: str) -> int:
+    """How long the longer of the two is between what both begin with and what both end with."""
+    front = len(commonprefix([one, other]))
+    one, other = one[front:], other[front:]
+    return max(len(one), len(other)) - len(commonprefix([one[::-1], other[::-1]]))
+
+
+def _nearest(word: str, names: Sequence[str]) -> Optional[str]:
+    """The first of the names that differ least from the word, if it is near enough."""
+    name = min(names, key=lambda it: _differences(word, it))
+    return name if _differences(word, name) <= _MOST_DIFFERENCES else None
+
+
 class Parser(argparse.ArgumentParser):
     """A parser that says why arguments are refused, and ends with the status of the program."""
 
     def __init__(self, command: str, description: str, epilog: str = "") -> None:
         super().__init__(prog=f"tablelayout {command}", allow_abbrev=False, formatter_class=_Help, description=description, epilog=epilog)
+
+    def parse(self, arguments: Sequence[str]) -> argparse.Namespace:
+        """What is given. Of a word that is not known it says which option is nearest, and ends."""
+        given, unknown = self.parse_known_args(arguments)
+        # After `--` none is an option.
+        before = set(arguments[:arguments.index("--")] if "--" in arguments else arguments)
+        options = [it for it in unknown if it.startswith("-") and it != "-" and it in before]
+        if options:
+            names = [name for action in self._actions for name in action.option_strings if name.startswith("--")]
+            nearest = _nearest(options[0], names)
+            self.error(f"unknown option '{options[0]}'" + (f": did you mean '{nearest}'?" if nearest else ""))
+        if unknown:
+            self.error(f"one file is read, and '{unknown[0]}' is one more")
+        return given
 
     def error(self, message: str) -> NoReturn:
         """Says that the arguments are invalid, and ends."""
@@ -35,6 +65,25 @@ def whole_number(text: str) -> int:
     if not text.isascii() or not text.isdigit():
         raise argparse.ArgumentTypeError(f"{text} is no number")
     return int(text)
+
+
+def number_up_to(most: int, least: int = 0) -> Callable[[str], int]:
+    """A number in a range, as the type of an argument."""
+
+    def read(text: str) -> int:
+        number = whole_number(text)
+        if not least <= number <= most:
+            raise argparse.ArgumentTypeError(f"{text} is no number from {least} to {most}")
+        return number
+
+    return read
+
+
+def breaking(text: str) -> str:
+    """How words break, as the program takes it. Raises ArgumentTypeError."""
+    if text not in ("words", "any", "fit") and (not text.isascii() or not text.isdigit() or text != str(int(text)) or int(text) > MOST_WIDTH):
+        raise argparse.ArgumentTypeError(f"{text} is none of words, any, fit, and no number from 0 to {MOST_WIDTH}")
+    return text
 
 
 def width_of_page(text: str) -> int:

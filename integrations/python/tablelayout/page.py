@@ -88,7 +88,7 @@ def text_of(name: str, form: Optional[str], width: int) -> bytes:
 
 def main(arguments: Sequence[str]) -> int:
     """Runs ``page`` and returns its status: 0, 1 without pandoc, 5 where that cannot read the file, 6, 7 or 8."""
-    given = _parser().parse_args(arguments)
+    given = _parser().parse(arguments)
     try:
         text = text_of(given.file, given.form, given.width or terminal.columns())
     except OSError as fault:

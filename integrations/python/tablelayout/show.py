@@ -5,7 +5,7 @@ import argparse
 from typing import TYPE_CHECKING, List, NamedTuple, Optional, Sequence
 
 from . import terminal
-from .arguments import STATUS_USAGE, Parser, whole_number, width_of_page, widths_of_columns, with_defaults
+from .arguments import STATUS_USAGE, Parser, breaking, number_up_to, whole_number, width_of_page, widths_of_columns, with_defaults
 from .decoding import decode
 from .errors import BadInput, BadRequest, Error, LimitPassed, Overlap, TooNarrow
 from .explain import explained
@@ -23,6 +23,9 @@ if TYPE_CHECKING:
     from .progress import ProgressLine
 
 STATUS_FAILED, STATUS_BAD_INPUT, STATUS_LIMIT, STATUS_READ_FAULT, STATUS_WRITE_FAULT, STATUS_MEMORY = 1, 5, 6, 7, 8, 9
+# What the program takes, so that what it does not is told by its name.
+_STYLES, _SOLVERS = ("plain", "compact", "frame"), ("plain", "best", "learn", "rounds")
+_MOST_BUDGET, _MOST_WORKERS = 100_000, 16
 
 
 def _delimiter(text: str) -> str:
@@ -51,12 +54,12 @@ def parser() -> Parser:
     it.add_argument("--columns", metavar="LIST", help="these columns alone, as a,c-f, by name or number")
     it.add_argument("--records", action=_Records, help="each row as two columns, of names and values")
     it.add_argument("--strict", action="store_true", help="only what the program itself reads, with the place of what it does not")
-    it.add_argument("--style", default="compact", metavar="STYLE", help="how the page is drawn: plain, compact (without it), frame")
-    it.add_argument("--break", dest="breaking", metavar="words|any|fit|N",
+    it.add_argument("--style", default="compact", choices=_STYLES, metavar="STYLE", help="how the page is drawn: plain, compact (without it), frame")
+    it.add_argument("--break", dest="breaking", type=breaking, metavar="words|any|fit|N",
                     help="how words break: not, all, as few as can be (without it), or those wider than N columns")
-    it.add_argument("--budget", type=whole_number, metavar="N", help="how many cuts one search may make")
-    it.add_argument("--solver", metavar="SEARCH", help="which search finds the page")
-    it.add_argument("--workers", type=whole_number, metavar="K", help="how many workers search at one time")
+    it.add_argument("--budget", type=number_up_to(_MOST_BUDGET), metavar="N", help="how many cuts one search may make")
+    it.add_argument("--solver", choices=_SOLVERS, metavar="SEARCH", help="which search finds the page")
+    it.add_argument("--workers", type=number_up_to(_MOST_WORKERS, 1), metavar="K", help="how many workers search at one time")
     it.add_argument("--html", action="store_true", help="the page as HTML with its widths")
     it.add_argument("--progress", action="store_true", help="how far a search has come, not on a terminal alone")
     it.add_argument("--quiet", dest="is_verbose", action="store_const", const=False, help="print errors alone")
@@ -230,7 +233,7 @@ def _progress_line(given: argparse.Namespace) -> "Optional[ProgressLine]":
 def main(arguments: Sequence[str]) -> int:
     """Runs ``show`` and returns its status: that of ``lay``, and with several tables the greatest."""
     known = parser()
-    given = known.parse_args(with_defaults(known, arguments))
+    given = known.parse(with_defaults(known, arguments))
     try:
         with Layouter(progress=_progress_line(given)) as layouter:
             return _Show(given, layouter).run()

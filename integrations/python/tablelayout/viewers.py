@@ -62,6 +62,7 @@ def lessopen(arguments: Sequence[str]) -> int:
     Of all else, and where that fails, it prints nothing, so that less shows the file.
     """
     if len(arguments) != 1:
+        terminal.write_message(["usage", "tablelayout lessopen: it takes one file"])
         return STATUS_USAGE
     name = arguments[0]
     kind = kind_by_name(name)
@@ -133,7 +134,7 @@ def textconv(arguments: Sequence[str]) -> int:
     """
     parser = _parser()
     # git names a file as it is, with `-` at its beginning too.
-    given = parser.parse_args(arguments[:-1] if arguments[-1:] != ["--help"] else arguments)
+    given = parser.parse(arguments[:-1] if arguments[-1:] != ["--help"] else arguments)
     if not arguments:
         parser.error("a file is missing")
     name = arguments[-1]
