@@ -5,7 +5,8 @@
 _tablelayout_options() {
     case $1 in
     show | lay | narrow | tidy | preview | check) echo --style --break --budget --workers --csv --head --least ;;&
-    show | lay | narrow | tidy | preview) echo --solver --html --progress ;;&
+    show | lay | narrow | tidy | preview) echo --solver --html ;;&
+    show | lay | narrow | tidy | batch | preview) echo --progress ;;&
     show | page) echo --width ;;&
     show)
         echo --table --list --json --markup --delimiter --encoding --rows --columns --records --strict --quiet --verbose

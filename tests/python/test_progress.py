@@ -21,8 +21,8 @@ FIRST, LATER = "progress table 0 cuts 64 height 1369 lower 369", "progress table
 DRAWN = "height 1,369 so far, lower bound 369, 0 % of the gap closed"
 # Of 1,000 lines 500 are left.
 DRAWN_LATER = "height 1,119 so far, lower bound 619, 50 % of the gap closed"
-# Reads a request, and keeps its words and the number of its process.
-ASKED = 'read -r words && echo "$words" >>"$ROOM/asked" && echo $$ >"$ROOM/pid" && head -c "${words##* }" >/dev/null\n'
+# Reads a request, and keeps its words after those of the process, and the number of that.
+ASKED = 'read -r words && echo "$*: $words" >>"$ROOM/asked" && echo $$ >"$ROOM/pid" && head -c "${words##* }" >/dev/null\n'
 # Waits for the test, which has to see what was drawn by then.
 PAUSE = 'while [ ! -e "$ROOM/seen" ]; do sleep 0.02; done\nrm "$ROOM/seen"\n'
 
@@ -83,7 +83,7 @@ class Progress(unittest.TestCase):
         # On one line: none ends before the page.
         self.assertEqual(came[:came.index("a\n")].count("\n"), 0)
         self.assertEqual(screen(came, 80), ["a", "lowest height 1 width 1", ""])
-        self.assertEqual((shown.ran.returncode, self.asked()), (0, [f"lay 80 --style compact --break fit --progress {len(TABLE)}"]))
+        self.assertEqual((shown.ran.returncode, self.asked()), (0, [f"batch --progress: lay 80 --style compact --break fit {len(TABLE)}"]))
 
     def test_narrow_terminal(self):
         shown = self.show(self.program(said(FIRST, LATER), PAUSE, ANSWER), columns=20)
@@ -138,23 +138,17 @@ class Progress(unittest.TestCase):
 
     def test_asked_for_only_where_it_is_drawn(self):
         program = self.program(said(FIRST), ANSWER)
-        plain = "lay 80 --style compact --break fit"
+        asked = f"lay 80 --style compact --break fit {len(TABLE)}"
         self.assertEqual(screen(self.show(program, "--quiet").end(), 80)[-2:], ["a", ""])
         environment = {**common.environment_of_test(), "TABLELAYOUT": program, "ROOM": str(self.room), "COLUMNS": "80"}
-        for more, words in ([], plain), (["--progress"], f"{plain} --progress"):
+        for more, words in ([], "batch"), (["--progress"], "batch --progress"):
             ran = subprocess.run([*START, "show", str(self.room / "in.html"), *more], stdout=subprocess.PIPE, stderr=subprocess.PIPE,
                                  check=False, env=environment)
             # Into a pipe the line comes as the program writes it.
             self.assertEqual((ran.stdout, ran.stderr.decode(), ran.returncode), (b"a\n", FIRST + "\n", 0))
-            self.assertEqual(self.asked()[-1], f"{words} {len(TABLE)}")
-        self.assertEqual(self.asked()[0], f"{plain} {len(TABLE)}")
+            self.assertEqual(self.asked()[-1], f"{words}: {asked}")
+        self.assertEqual(self.asked()[0], f"batch: {asked}")
         self.assertIn(DRAWN, self.show(program, "--quiet", "--progress").end())
-
-    def test_program_that_does_not_know_it(self):
-        refuses = 'case $words in *" --progress "*) printf "2 0 0 0 0\\nusage\\n" && exit 2 ;; esac\n'
-        shown = self.show(self.program(refuses, ANSWER))
-        self.assertEqual(screen(shown.end(), 80), ["a", "lowest height 1 width 1", ""])
-        self.assertEqual([" --progress " in it for it in self.asked()], [True, False])
 
     def test_program_that_dies(self):
         shown = self.show(self.program(said(FIRST, "it dies"), "exit 3\n"))

@@ -14,7 +14,7 @@ from .pages import LowPage, NarrowPage, Page, TidyPage, Verdict, verdict_of
 from .program import find_program, is_runnable
 from .protocol import Answer, Ended, request
 from .rows import Rows
-from .sources import PROGRESS, Options, Source, source_of
+from .sources import Options, Source, source_of
 
 if TYPE_CHECKING:
     from .progress import ProgressLine
@@ -34,13 +34,16 @@ class Layouter:
             print(layouter.lay([["a", "b"], ["c", "d"]], 72))
     """
 
-    def __init__(self, command: Optional[Sequence[str]] = None, progress: "Optional[ProgressLine]" = None) -> None:
+    def __init__(self, command: Optional[Sequence[str]] = None, progress: "Optional[ProgressLine]" = None,
+                 says_progress: bool = False) -> None:
         """``command`` is the program with the arguments that stand before all others; without it the program is looked for.
 
-        ``progress`` draws how far a search has come. Nothing is started before the first request.
+        ``progress`` draws how far a search has come; with ``says_progress`` alone the lines of the program say it, on standard
+        error. Nothing is started before the first request.
         """
         self._command = command
         self._progress = progress
+        self._says_progress = says_progress
         self._process: Optional[CoProcess] = None
         self._lock = threading.Lock()
         self._is_closed = False
@@ -108,7 +111,8 @@ class Layouter:
         if not is_runnable(command[0]):
             raise ProgramFault(f"there is no program {command[0]} that can be run")
         try:
-            return CoProcess([*command, "batch"], self._progress.take if self._progress else None)
+            words = ["batch", "--progress"] if self._progress or self._says_progress else ["batch"]
+            return CoProcess([*command, *words], self._progress.take if self._progress else None)
         except OSError as fault:
             raise ProgramFault(f"{command[0]} could not be started: {fault.strerror}") from fault
 
@@ -191,16 +195,6 @@ class Layouter:
             return Verdict("narrow", answer.message, least=refused.least)
         raise refused
 
-    def _ask_for_page(self, words: Sequence[str], data: bytes) -> Answer:
-        """As ``ask``, with the option that says how far the search has come, where that is drawn."""
-        if self._progress and PROGRESS not in words:
-            answer = self.ask([*words, PROGRESS], data)
-            if answer.status != USAGE:
-                return answer
-            # A program of an earlier version does not know the option.
-            self._progress = None
-        return self.ask(words, data)
-
     def lay_source(self, source: Source, width: int, options: Options) -> LowPage:
         """As ``lay``, of a source."""
         return self._page("lay", width, source, options, LowPage)
@@ -213,7 +207,7 @@ class Layouter:
         words = [command, str(size), *options.words(), *source.words]
 
         def again(more: Sequence[str]) -> Answer:
-            return self._ask_for_page([*words, *more], source.data)
+            return self.ask([*words, *more], source.data)
 
         def relay(width: int) -> Page:
             return self.lay_source(source, width, options)

@@ -16,7 +16,7 @@ from .kinds import CSV, HTML, JSON, Kind, kind_by_content, kind_by_name
 from .laying import BREAKING, Shown, Way, lay_item
 from .layouter import Layouter
 from .records import NAMED_DELIMITERS, find_delimiter
-from .sources import PROGRESS, Options, Source, csv_words
+from .sources import Options, Source, csv_words
 from .texts import has_marks
 
 if TYPE_CHECKING:
@@ -125,8 +125,8 @@ class _Show:
         self._layouter = layouter
         self._room = terminal.columns()
         self._says_numbers = terminal.is_terminal() if given.is_verbose is None else given.is_verbose
-        more = [name for name, is_given in (("--html", given.html), (PROGRESS, given.progress)) if is_given]
-        options = Options(given.style, given.breaking or BREAKING, given.budget, given.solver, given.workers, tuple(more))
+        more = ("--html",) if given.html else ()
+        options = Options(given.style, given.breaking or BREAKING, given.budget, given.solver, given.workers, more)
         records = False if given.html or given.strict else given.records
         self._way = Way(given.width or self._room, options, records, terminal.has_bold() and not given.html)
 
@@ -235,7 +235,7 @@ def main(arguments: Sequence[str]) -> int:
     known = parser()
     given = known.parse(with_defaults(known, arguments))
     try:
-        with Layouter(progress=_progress_line(given)) as layouter:
+        with Layouter(progress=_progress_line(given), says_progress=given.progress) as layouter:
             return _Show(given, layouter).run()
     except _Fault as fault:
         terminal.write_message(fault.lines)

@@ -6,10 +6,6 @@ from typing import List, NamedTuple, Optional, Sequence, Tuple, Union
 from .rows import Rows, csv_of
 
 
-# The option that has the program say how far a search has come.
-PROGRESS = "--progress"
-
-
 class Source(NamedTuple):
     """A file, the words that say what it is, and whether it was made from rows."""
 
