@@ -9,17 +9,28 @@ skip() {
     echo "$0: skipped: there is no $1, $2" >&2
 }
 
-# Every script of the repository, by its first line.
+# Every script of the repository, by its name or its first line, wherever it stands.
 shells=() pythons=() luas=()
-for file in tablelayout .ci/* bench/* command/* integrations/*/* tests/* tools/*; do
-    [ -f "$file" ] || continue
+while read -r -d '' file; do
+    first=''
     read -r first <"$file"
-    case $first in
-    '#!'*sh | '# shellcheck shell='*) shells+=("$file") ;;
-    '#!'*python3 | '"""'*) pythons+=("$file") ;;
-    '--'*) luas+=("$file") ;;
+    case $file in
+    *.py) first='#!python3' ;;
+    *.lua) first='#!lua' ;;
+    *.sh | *.bash) first='#!sh' ;;
     esac
-done
+    case $first in
+    '#!'*python3) pythons+=("$file") ;;
+    '#!'*lua) luas+=("$file") ;;
+    '#!'*sh | '# shellcheck shell='*) shells+=("$file") ;;
+    '#!'*) echo "$file is a script that nothing looks at: $first" && failed=1 ;;
+    esac
+done < <(find . \( -name .git -o -name out -o -name src -o -name specs -o -name proofs -o -name must-fail \) -prune -o -type f -printf '%P\0' | LC_ALL=C sort -z)
+# As many as there are at least, so that none is lost by a change of this list.
+if [ ${#shells[@]} -lt 45 ] || [ ${#pythons[@]} -lt 60 ] || [ ${#luas[@]} -lt 2 ]; then
+    echo "only ${#shells[@]} scripts of shells, ${#pythons[@]} of Python and ${#luas[@]} of Lua are found"
+    failed=1
+fi
 
 if command -v shellcheck >/dev/null; then
     shellcheck -x "${shells[@]}" || failed=1

@@ -1,7 +1,7 @@
 """CSV and JSON as they come."""
 import unittest
 
-import common  # noqa: F401
+import common
 
 from tablelayout import decoding, json_values, kinds, records
 from tablelayout.faults import BadChoice, BadFile
@@ -48,6 +48,11 @@ class Csv(unittest.TestCase):
         ):
             with self.subTest(text=text):
                 self.assertEqual(records.read_csv(text, ",").records, wanted)
+
+    def test_example(self):
+        text = (common.TOP / "examples" / "settings.csv").read_text()
+        found = records.read_csv(text, records.find_delimiter(text))
+        self.assertEqual(([len(it) for it in found.records], found.records[2][1], found.notes), ([4] * 5, '"$user", public', []))
 
     def test_long_records_are_named(self):
         self.assertEqual(records.read_csv('a,b\n"c\n",d\n\ne,f,g\n', ",").notes, ["line 5 has 3 fields, and the first record 2"])

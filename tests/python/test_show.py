@@ -286,19 +286,19 @@ class Show(unittest.TestCase):
                     self.assertIn(ran.status, (0, 3, 4, 5, 6))
 
     def test_missing_package(self):
-        script = "import sys; sys.path.insert(0, sys.argv[1]); import tablelayout.packages as it; it._SYSTEM_PACKAGES = '/none'; " \
-                 "sys.modules['html5lib'] = None; from tablelayout.show import main; sys.exit(main(['-']))"
+        code = "import sys; sys.path.insert(0, sys.argv[1]); import tablelayout.packages as it; it._SYSTEM_PACKAGES = '/none'; " \
+               "sys.modules['html5lib'] = None; from tablelayout.show import main; sys.exit(main(['-']))"
         environment = {**os.environ, "TABLELAYOUT": common.PROGRAM}
-        ran = subprocess.run([sys.executable, "-c", script, str(common.TOP / "integrations" / "python")], input=PAGE, check=False,
+        ran = subprocess.run([sys.executable, "-c", code, str(common.TOP / "integrations" / "python")], input=PAGE, check=False,
                              stdout=subprocess.PIPE, stderr=subprocess.PIPE, env=environment)
         self.assertEqual(ran.returncode, 5, ran.stderr)
         self.assertIn("html5lib is missing: 'apt-get install python3-html5lib'", ran.stderr.decode().splitlines()[-1])
 
     def test_closed_output(self):
         data = b"".join(b"%d,%s\n" % (it, b"some words that take a while " * 6) for it in range(1900))
-        script = f'"$@" --csv --width 300 | head -n 1; echo "${{PIPESTATUS[0]}}"'
+        command = '"$@" --csv --width 300 | head -n 1; echo "${PIPESTATUS[0]}"'
         environment = {**os.environ, "TABLELAYOUT": common.PROGRAM}
-        ran = subprocess.run(["bash", "-c", script, "bash", *START, "show"], input=data, check=False, stdout=subprocess.PIPE,
+        ran = subprocess.run(["bash", "-c", command, "bash", *START, "show"], input=data, check=False, stdout=subprocess.PIPE,
                              stderr=subprocess.PIPE, env=environment)
         self.assertEqual((ran.stdout.decode().split()[0], ran.stdout.decode().split()[-1], ran.stderr), ("0", "8", b""))
 
