@@ -6,6 +6,7 @@ import fcntl
 import os
 import pty
 import shutil
+import signal
 import struct
 import subprocess
 import sys
@@ -63,6 +64,8 @@ class OnTerminal:
         environment = {**environment_of_test(), "TABLELAYOUT": PROGRAM, "TERM": "xterm", "TABLELAYOUT_OPTIONS": "", **environment}
 
         def take_terminal():
+            # A job in the background of a script is started with interrupts ignored.
+            signal.signal(signal.SIGINT, signal.SIG_DFL)
             os.setsid()
             fcntl.ioctl(theirs, termios.TIOCSCTTY, 0)
 
