@@ -3,6 +3,7 @@
 --       0            zone 1: bound 3, area bound 6
 --      / \           zone 2: bound 4, area bound 2
 --     1   2
+use Rattle.tl_base.specs.Style.{spacing_of}
 use Rattle.std.proofs.Common.{◌≡◌, ℕ, ◌<◌, List, [], ◌∷◌, ◌⊎◌, inl, inr, length, get_or, refl, ap, ◌∙◌, subst}
 use Rattle.std.proofs.Common.{arith}
 use Rattle.std.proofs.lemmas.Bool.{cases_lt}
@@ -187,7 +188,7 @@ past_the_page = record {
 }
 
 abbrev narrow : ProblemModel
-narrow = record { cols = 1; rows = 1; style = Plain; width = 5; cells = past_the_page ∷ [] }
+narrow = record { cols = 1; rows = 1; spacing = spacing_of Plain; width = 5; cells = past_the_page ∷ [] }
 
 -- `low` is `high` at each width of the page
 low_is_high : LowIsHigh narrow

@@ -9,7 +9,7 @@ pub(crate) fn column_places(
     shape: &Shape,
     rooms: &[u32],
 ) -> Result<Vec<u32>, AllocError> {
-    let gap = shape.style.gap();
+    let gap = shape.spacing.gap;
     let mut places = vec![in alloc; 0; (shape.cols as usize).saturating_add(1)]?;
     let mut column = 0u32;
     for (number, span) in shape.spans.iter().enumerate() {
@@ -37,8 +37,8 @@ fn step(places: &mut [u32], column: u32, gap: u32) {
 
 /// Whether columns at these places are within the page.
 pub(crate) fn is_on_page(shape: &Shape, places: &[u32]) -> bool {
-    let end = number_at(places, shape.cols as usize).saturating_sub(shape.style.gap());
-    shape.cols == 0 || end.saturating_add(2 * shape.style.edge()) <= shape.width
+    let end = number_at(places, shape.cols as usize).saturating_sub(shape.spacing.gap);
+    shape.cols == 0 || end.saturating_add(shape.spacing.edges) <= shape.width
 }
 
 /// The widths of columns at these places.
@@ -47,7 +47,7 @@ pub(crate) fn widths_between(
     shape: &Shape,
     places: &[u32],
 ) -> Result<Vec<u32>, AllocError> {
-    let gap = shape.style.gap();
+    let gap = shape.spacing.gap;
     let mut widths = Vec::new(alloc);
     for column in 0..shape.cols as usize {
         let next = number_at(places, column.saturating_add(1));
@@ -64,7 +64,7 @@ pub(crate) fn longest_path(
     rooms: &[u32],
     places: &[u32],
 ) -> Result<Vec<usize>, AllocError> {
-    let gap = shape.style.gap();
+    let gap = shape.spacing.gap;
     let mut path = Vec::new(alloc);
     let mut end = shape.cols;
     for number in (0..shape.spans.len()).rev() {

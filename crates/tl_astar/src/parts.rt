@@ -63,7 +63,7 @@ impl Part {
         ensures { OnOk result (length self.new.rooms.items ≡ length shape.now.spans.items) }
     {
         let (a, b, most) = limit;
-        let gap = signed(shape.style.gap());
+        let gap = signed(shape.spacing.gap);
         self.rooms.clear();
         for number in 0..shape.spans.len() {
             if sight.rises.of_span(number).is_empty() {
@@ -128,7 +128,7 @@ fn place_at(
     part: &mut Part,
 ) -> Result<Place, AllocError> {
     let (span, class) = cut;
-    let gap = signed(shape.style.gap());
+    let gap = signed(shape.spacing.gap);
     let Some(&Span { left, right }) = shape.spans.get(span) else {
         return Ok(Place {
             span,

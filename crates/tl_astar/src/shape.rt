@@ -4,7 +4,7 @@ ghost use Rattle.std.specs.Prelude.{◌≡◌, ◌<◌, length, max, slice_index
 ghost use Rattle.tl_problem.specs.Spans.{spans_of};
 
 use std::alloc::{AllocError, Global};
-use tl_base::Style;
+use tl_base::Spacing;
 use tl_problem::{Cell, Problem, Span};
 
 /// The spans and strips of a problem's cells. A strip is the rows from a top up to a bottom; each row is
@@ -12,7 +12,7 @@ use tl_problem::{Cell, Problem, Span};
 pub(crate) struct Shape {
     pub(crate) cols: u32,
     pub(crate) rows: u32,
-    pub(crate) style: Style,
+    pub(crate) spacing: Spacing,
     /// The width of the page, in columns.
     pub(crate) width: u32,
     /// The spans, by left, then right.
@@ -32,7 +32,7 @@ impl Drop for Shape {
         let Shape {
             cols: _cols,
             rows: _rows,
-            style: _style,
+            spacing: _spacing,
             width: _width,
             spans: _spans,
             classes: _classes,
@@ -52,7 +52,7 @@ impl Shape {
         Ok(Shape {
             cols: problem.cols(),
             rows: problem.rows(),
-            style: problem.style(),
+            spacing: problem.spacing(),
             width: problem.width(),
             spans: Vec::from_slice(alloc, problem.spans())?,
             classes: class_lists(alloc, problem)?,

@@ -75,7 +75,7 @@ fn heights_at(alloc: Global, whole: &Whole, most: &[u32]) -> Result<Vec<u32>, Al
 
 /// The places where rows begin, each with a gap before the next, and where the last one ends.
 fn row_places(alloc: Global, shape: &Shape, heights: &[u32]) -> Result<Vec<u32>, AllocError> {
-    let gap = shape.style.row_gap();
+    let gap = shape.spacing.row_gap;
     let mut places = vec![in alloc; 0; (shape.rows as usize).saturating_add(1)]?;
     for (number, strip) in shape.strips.iter().enumerate() {
         let end = number_at(&places, strip.0 as usize)
@@ -95,11 +95,11 @@ pub(crate) fn total_height(
     if shape.rows == 0 {
         return Ok(0);
     }
-    let edges = 2 * shape.style.edge();
+    let lines = shape.spacing.lines;
     let end = rows_end(alloc, shape, heights)?;
     Ok(
-        end.saturating_add(edges)
-            .saturating_sub(shape.style.row_gap()),
+        end.saturating_add(lines)
+            .saturating_sub(shape.spacing.row_gap),
     )
 }
 
@@ -109,7 +109,7 @@ fn rows_end(alloc: Global, shape: &Shape, heights: &[u32]) -> Result<u32, AllocE
         let places = row_places(alloc, shape, heights)?;
         return Ok(number_at(&places, shape.rows as usize));
     }
-    let gaps = u64::from(shape.rows).saturating_mul(u64::from(shape.style.row_gap()));
+    let gaps = u64::from(shape.rows).saturating_mul(u64::from(shape.spacing.row_gap));
     let mut lines = 0u64;
     for &height in heights {
         lines = lines.saturating_add(u64::from(height));
@@ -153,7 +153,7 @@ pub(crate) fn lines_of_strips(
         lines.push(
             bottom
                 .saturating_sub(top)
-                .saturating_sub(shape.style.row_gap()),
+                .saturating_sub(shape.spacing.row_gap),
         )?;
     }
     Ok(lines)

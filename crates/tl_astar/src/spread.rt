@@ -87,11 +87,11 @@ impl Spread {
 
 /// How far the columns lie apart on the page, where each span has at least its least width.
 pub(crate) fn page_spread(alloc: Global, shape: &Shape) -> Result<Spread, AllocError> {
-    let gap = signed(shape.style.gap());
+    let gap = signed(shape.spacing.gap);
     let page = shape
         .width
-        .saturating_sub(2 * shape.style.edge())
-        .saturating_add(shape.style.gap());
+        .saturating_sub(shape.spacing.edges)
+        .saturating_add(shape.spacing.gap);
     let mut spread = Spread::new(alloc, (shape.cols as usize).saturating_add(1))?;
     // In this order the fewest limits change one that was there: a span keeps its columns a gap apart, and
     // only the page keeps them near each other.
@@ -126,7 +126,7 @@ pub(crate) fn zone_spread(
 fn limit_first(shape: &Shape, number: usize, first: usize, spread: &mut Spread) {
     if let Some(span) = shape.spans.get(number) {
         let least = signed(number_at(shape.classes_of(number), first));
-        let apart = least.saturating_add(signed(shape.style.gap()));
+        let apart = least.saturating_add(signed(shape.spacing.gap));
         spread.limit(span.right, span.left, apart.saturating_neg());
     }
 }
@@ -136,7 +136,7 @@ fn limit_last(shape: &Shape, number: usize, last: usize, spread: &mut Spread) {
     let next = shape.classes_of(number).get(last.saturating_add(1));
     if let (Some(span), Some(&next)) = (shape.spans.get(number), next) {
         let most = signed(next).saturating_sub(1);
-        let gap = signed(shape.style.gap());
+        let gap = signed(shape.spacing.gap);
         spread.limit(span.left, span.right, most.saturating_add(gap));
     }
 }
@@ -147,7 +147,7 @@ pub(crate) fn least_rooms(
     shape: &Shape,
     spread: &Spread,
 ) -> Result<Vec<u32>, AllocError> {
-    let gap = signed(shape.style.gap());
+    let gap = signed(shape.spacing.gap);
     let mut rooms = Vec::new(alloc);
     for span in &shape.spans {
         let back = spread.at(span.right, span.left).saturating_neg();
@@ -162,7 +162,7 @@ pub(crate) fn greatest_rooms(
     shape: &Shape,
     spread: &Spread,
 ) -> Result<Vec<u32>, AllocError> {
-    let gap = signed(shape.style.gap());
+    let gap = signed(shape.spacing.gap);
     let mut rooms = Vec::new(alloc);
     for span in &shape.spans {
         let on = spread.at(span.left, span.right);

@@ -2,34 +2,35 @@
 use Rattle.std.proofs.Common.{◌≡◌, ℕ, ◌+◌, ◌-◌, ◌*◌, ◌^◌, ◌<◌, ◌≤◌, zero, suc, List, [], ◌∷◌, length, get_or, take, drop, sum}
 use Rattle.std.proofs.Common.{refl, ap, arith}
 use Rattle.std.specs.List.{AllByRecursion, slice_range}
+use Rattle.std.proofs.Math.Nat.{mul-le-mul}
 use Rattle.std.proofs.lemmas.List.{take_all, get_or_default}
 use Rattle.std.proofs.lemmas.List.Sums.{sum_by-cons, sum_by-take-le, sum_by-take-drop, sum_by-le}
 use Rattle.tl_base.specs.declared.limits.TheConstants.{MAX_ROWS}
 use Rattle.tl_base.specs.declared.style.Style.{Style}
-use Rattle.tl_base.specs.declared.style.Style.TheVariants.{Plain, Compact, Frame}
-use Rattle.tl_base.specs.Style.{row_gap_of, edge_of}
+use Rattle.tl_base.specs.declared.style.Style.TheVariants.{Plain, Compact, Frame, Grid, Box}
+use Rattle.tl_base.specs.Style.{spacing_of, IsSpacing}
 use Rattle.tl_base.proofs.Sums.{sum-cons, sum-within}
 use Rattle.tl_base.specs.Sizes.{position, room, total}
 
 -- ---- the total, by the place where the last one ends
 
-pub total-position : (gap edge : ℕ) (sizes : List ℕ) → 0 < length sizes →
-    total gap edge sizes + gap ≡ position gap sizes (length sizes) + 2 * edge
-total-position gap edge [] some = absurd (omega arith)
-total-position gap edge (size ∷ sizes) some =
+pub total-position : (gap edges : ℕ) (sizes : List ℕ) → 0 < length sizes →
+    total gap edges sizes + gap ≡ position gap sizes (length sizes) + edges
+total-position gap edges [] some = absurd (omega arith)
+total-position gap edges (size ∷ sizes) some =
     let all = ap sum (take_all (length (size ∷ sizes)) (size ∷ sizes) (omega arith)) in
     let head = sum_by-cons (λ x. x) size sizes in
     let product : gap * length (size ∷ sizes) ≡ gap * length sizes + gap = grind arith in
     omega (arith, all, head, product)
 
 -- sizes that end no later take no more in all
-pub total-le : (gap edge : ℕ) (xs ys : List ℕ) → length xs ≡ length ys →
+pub total-le : (gap edges : ℕ) (xs ys : List ℕ) → length xs ≡ length ys →
     position gap xs (length xs) ≤ position gap ys (length xs) →
-    total gap edge xs ≤ total gap edge ys
-total-le gap edge [] ys same ends = omega arith
-total-le gap edge (x ∷ xs) ys same ends =
-    let first = total-position gap edge (x ∷ xs) (omega arith) in
-    let second = total-position gap edge ys (omega arith) in
+    total gap edges xs ≤ total gap edges ys
+total-le gap edges [] ys same ends = omega arith
+total-le gap edges (x ∷ xs) ys same ends =
+    let first = total-position gap edges (x ∷ xs) (omega arith) in
+    let second = total-position gap edges ys (omega arith) in
     let at = ap (position gap ys) same in
     omega (arith, first, second, at, ends)
 
@@ -94,22 +95,22 @@ same-positions gap (x ∷ xs) (y ∷ ys) same at =
 -- ---- sizes within the whole
 
 -- a room takes no more than the whole
-pub room-total : (gap edge : ℕ) (sizes : List ℕ) (left right : ℕ) → left < right → right ≤ length sizes →
-    room gap sizes left right ≤ total gap edge sizes
-room-total gap edge sizes left right ahead within =
-    let whole = total-position gap edge sizes (omega (arith, ahead, within)) in
+pub room-total : (gap edges : ℕ) (sizes : List ℕ) (left right : ℕ) → left < right → right ≤ length sizes →
+    room gap sizes left right ≤ total gap edges sizes
+room-total gap edges sizes left right ahead within =
+    let whole = total-position gap edges sizes (omega (arith, ahead, within)) in
     let span = room-position gap sizes left right ahead in
     let before = position-mono gap sizes right (length sizes) within in
     omega (arith, whole, span, before)
 
 -- the sizes alone take no more than the whole
-pub sum-total : (gap edge : ℕ) (sizes : List ℕ) → sum sizes ≤ total gap edge sizes
-sum-total gap edge [] = omega arith
-sum-total gap edge (size ∷ sizes) = omega (arith, sum-cons size sizes)
+pub sum-total : (gap edges : ℕ) (sizes : List ℕ) → sum sizes ≤ total gap edges sizes
+sum-total gap edges [] = omega arith
+sum-total gap edges (size ∷ sizes) = omega (arith, sum-cons size sizes)
 
 -- and none of them takes more than the whole may
-pub total-within : (gap edge most : ℕ) (sizes : List ℕ) → total gap edge sizes ≤ most → AllByRecursion (λ size. size ≤ most) sizes
-total-within gap edge most sizes within = sum-within most sizes (omega (arith, sum-total gap edge sizes, within))
+pub total-within : (gap edges most : ℕ) (sizes : List ℕ) → total gap edges sizes ≤ most → AllByRecursion (λ size. size ≤ most) sizes
+total-within gap edges most sizes within = sum-within most sizes (omega (arith, sum-total gap edges sizes, within))
 
 -- the next place is a size and a gap further
 pub position-next : (gap : ℕ) (sizes : List ℕ) (k : ℕ) → k < length sizes →
@@ -139,10 +140,10 @@ position-gap gap sizes k =
 -- ---- sums
 
 -- the total of some sizes, by their sum
-pub total-sum : (gap edge : ℕ) (sizes : List ℕ) → 0 < length sizes →
-    total gap edge sizes ≡ sum sizes + gap * (length sizes - 1) + 2 * edge
-total-sum gap edge [] some = absurd (omega arith)
-total-sum gap edge (size ∷ sizes) some = let rest : length (size ∷ sizes) - 1 ≡ length sizes = omega arith in rw rest
+pub total-sum : (gap edges : ℕ) (sizes : List ℕ) → 0 < length sizes →
+    total gap edges sizes ≡ sum sizes + gap * (length sizes - 1) + edges
+total-sum gap edges [] some = absurd (omega arith)
+total-sum gap edges (size ∷ sizes) some = let rest : length (size ∷ sizes) - 1 ≡ length sizes = omega arith in rw rest
     (omega (arith, sum_by-cons (λ x. x) size sizes))
 
 -- the sum of a span of sizes is at most that of all
@@ -158,11 +159,18 @@ sum-bound sizes fit =
     sum_by-le (λ x. x) (2 ^ 32 - 1) sizes (λ k d within. omega (arith, get_or_default sizes k d 0 within, fit k))
 
 -- the total height of few rows is little more than the sum
-pub total-few : (style : Style) (heights : List ℕ) → length heights ≤ MAX_ROWS + 1 →
-    total (row_gap_of style) (edge_of style) heights ≤ sum heights + (MAX_ROWS + 3)
-total-few Plain [] few = omega arith
-total-few Compact [] few = omega arith
-total-few Frame [] few = omega arith
-total-few Plain (h ∷ heights) few = omega (arith, sum_by-cons (λ x. x) h heights)
-total-few Compact (h ∷ heights) few = omega (arith, sum_by-cons (λ x. x) h heights)
-total-few Frame (h ∷ heights) few = omega (arith, sum_by-cons (λ x. x) h heights)
+pub total-few : (gap edges : ℕ) (sizes : List ℕ) → gap ≤ 1 → edges ≤ MAX_ROWS + 2 → length sizes ≤ MAX_ROWS + 1 →
+    total gap edges sizes ≤ sum sizes + (2 * MAX_ROWS + 2)
+total-few gap edges [] close beside few = omega arith
+total-few gap edges (size ∷ sizes) close beside few =
+    let same : length sizes ≤ length sizes = omega arith in
+    let gaps = mul-le-mul close same in
+    omega (arith, sum_by-cons (λ x. x) size sizes, gaps, beside, few)
+
+-- ---- the spacing of a style is one
+pub spacing-sound : (style : Style) → IsSpacing (spacing_of style)
+spacing-sound Plain = record { apart = omega arith; near = omega arith; close = omega arith; narrow = omega arith; few = omega arith }
+spacing-sound Compact = record { apart = omega arith; near = omega arith; close = omega arith; narrow = omega arith; few = omega arith }
+spacing-sound Frame = record { apart = omega arith; near = omega arith; close = omega arith; narrow = omega arith; few = omega arith }
+spacing-sound Grid = record { apart = omega arith; near = omega arith; close = omega arith; narrow = omega arith; few = omega arith }
+spacing-sound Box = record { apart = omega arith; near = omega arith; close = omega arith; narrow = omega arith; few = omega arith }

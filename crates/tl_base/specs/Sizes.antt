@@ -10,12 +10,12 @@ position gap sizes place = sum (take place sizes) + gap * place
 abbrev pub room : ℕ → List ℕ → ℕ → ℕ → ℕ
 room gap sizes from past = sum (slice_range sizes from past) + gap * (past - from - 1)
 
--- the total size: all sizes, the gaps between them, and an edge at each side; nothing for no column or row
+-- the total size: all sizes, the gaps between them, and what both edges take; nothing for no column or row
 abbrev pub total : ℕ → ℕ → List ℕ → ℕ
-total gap edge [] = 0
-total gap edge (size ∷ sizes) = size + sum sizes + gap * length sizes + 2 * edge
+total gap edges [] = 0
+total gap edges (size ∷ sizes) = size + sum sizes + gap * length sizes + edges
 
 -- `least` is the least total of sizes of this kind
-pub record IsLeastTotal (gap edge : ℕ) (OfKind : List ℕ → Type 0) (least : ℕ) : Type 0 where
-  pub attained : (sizes : List ℕ) × OfKind sizes × (total gap edge sizes ≡ least)
-  pub never_less : (sizes : List ℕ) → OfKind sizes → least ≤ total gap edge sizes
+pub record IsLeastTotal (gap edges : ℕ) (OfKind : List ℕ → Type 0) (least : ℕ) : Type 0 where
+  pub attained : (sizes : List ℕ) × OfKind sizes × (total gap edges sizes ≡ least)
+  pub never_less : (sizes : List ℕ) → OfKind sizes → least ≤ total gap edges sizes

@@ -16,6 +16,7 @@ mod memory_desk;
 mod number;
 mod search;
 mod sizes;
+mod spacing;
 mod steps;
 mod style;
 #[cfg(test)]
@@ -36,6 +37,7 @@ pub use memory_desk::{Fail, MemoryDesk};
 pub use number::{read_number, write_number};
 pub use search::Search;
 pub use sizes::{room_on_page, room_size, total_size};
+pub use spacing::Spacing;
 pub use steps::{Config, Steps};
 pub use style::Style;
 pub use text::Text;

@@ -7,18 +7,18 @@ ghost use Rattle.tl_base.specs.Sizes.{room, total};
 use crate::limits::{MAX_COLUMNS, MAX_PAGE_WIDTH, MAX_ROWS};
 
 /// The columns, or the lines, that columns or rows of these sizes take: the sizes, the gap between each two,
-/// and an edge at each side; 0 where there are none.
-pub fn total_size(gap: u32, edge: u32, sizes: &[u32]) -> u64
+/// and what both edges take together; 0 where there are none.
+pub fn total_size(gap: u32, edges: u32, sizes: &[u32]) -> u64
     requires gap { gap ≤ 2 }
-    requires edge { edge ≤ 2 }
+    requires edges { edges ≤ MAX_ROWS + 2 }
     requires few { length sizes.now ≤ MAX_ROWS + 1 }
-    ensures total { result ≡ total gap edge sizes.now }
+    ensures total { result ≡ total gap edges sizes.now }
     ensures small { result < 2 ^ 45 }
 {
     if sizes.is_empty() {
         return 0;
     }
-    sum_of(sizes) + u64::from(gap) * (sizes.len() as u64 - 1) + 2 * u64::from(edge)
+    sum_of(sizes) + u64::from(gap) * (sizes.len() as u64 - 1) + u64::from(edges)
 }
 
 /// The room, in columns or lines, of the columns or rows from `from` on and before `past`, with the gaps

@@ -360,6 +360,8 @@ mod tests {
             (Style::Plain, 2, 0, 0),
             (Style::Compact, 1, 0, 0),
             (Style::Frame, 1, 1, 1),
+            (Style::Grid, 1, 1, 1),
+            (Style::Box, 1, 1, 1),
         ] {
             assert_eq!(rt;
                 (style.gap(), style.row_gap(), style.edge()),

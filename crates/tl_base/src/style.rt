@@ -1,5 +1,7 @@
 //! The ways in which a table is drawn.
 
+use crate::spacing::Spacing;
+
 /// How a table is drawn.
 #[derive(Clone, Copy, Debug, PartialEq, Eq)]
 pub enum Style {
@@ -9,11 +11,15 @@ pub enum Style {
     Compact,
     /// A line of `|`, `-` and `+` between columns and rows and round the table.
     Frame,
+    /// As [`Style::Frame`], with `=` under the head of the table.
+    Grid,
+    /// As [`Style::Frame`], with the box drawing characters of Unicode, double under the head.
+    Box,
 }
 
 impl Style {
     ghost use Rattle.std.specs.Prelude.{◌≡◌};
-    ghost use Rattle.tl_base.specs.Style.{gap_of, row_gap_of, edge_of};
+    ghost use Rattle.tl_base.specs.Style.{gap_of, row_gap_of, edge_of, edges_of, spacing_of};
 
     /// The columns of text between two columns of the table.
     pub fn gap(self) -> u32
@@ -21,7 +27,7 @@ impl Style {
     {
         match self {
             Style::Plain => 2,
-            Style::Compact | Style::Frame => 1,
+            Style::Compact | Style::Frame | Style::Grid | Style::Box => 1,
         }
     }
 
@@ -31,7 +37,7 @@ impl Style {
     {
         match self {
             Style::Plain | Style::Compact => 0,
-            Style::Frame => 1,
+            Style::Frame | Style::Grid | Style::Box => 1,
         }
     }
 
@@ -41,7 +47,26 @@ impl Style {
     {
         match self {
             Style::Plain | Style::Compact => 0,
-            Style::Frame => 1,
+            Style::Frame | Style::Grid | Style::Box => 1,
+        }
+    }
+
+    /// The columns, and the lines, that both outer edges of the table take together.
+    pub fn edges(self) -> u32
+        ensures { result ≡ edges_of self }
+    {
+        2 * self.edge()
+    }
+
+    /// How far the columns and rows of a table stand apart: all that layouts see of a style.
+    pub fn spacing(self) -> Spacing
+        ensures { result ≡ spacing_of self }
+    {
+        Spacing {
+            gap: self.gap(),
+            row_gap: self.row_gap(),
+            edges: self.edges(),
+            lines: self.edges(),
         }
     }
 }

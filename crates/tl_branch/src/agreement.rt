@@ -12,7 +12,7 @@ pub(crate) fn low_is_high(problem: &Problem) -> bool
     ensures { IsTrue result ↔ LowIsHigh problem.now }
 {
     let cells = problem.cells();
-    let room = problem.width().saturating_sub(2 * problem.style().edge());
+    let room = problem.width().saturating_sub(problem.spacing().edges);
     for number in 0..cells.len() {
         if !agrees(&cells[number], room) {
             return false;

@@ -2,7 +2,6 @@
 use Rattle.std.proofs.Common.{◌≡◌, ℕ, ◌+◌, ◌<◌, ℤ, pos, neg_ℤ, ◌≤ℤ◌, List, [], ◌∷◌, ◌++◌, length, refl, ap, arith}
 use Rattle.std.proofs.lemmas.Int.{ints}
 use Rattle.std.proofs.lemmas.List.Elements.{All-push}
-use Rattle.tl_base.specs.Style.{gap_of}
 use Rattle.tl_base.proofs.Members.{All-prefix, All-last}
 use Rattle.tl_diff.specs.Bounds.{Bounds, IsSatisfiable, AddsBound}
 use Rattle.tl_diff.specs.Marks.{MarkedBounds}
@@ -51,7 +50,7 @@ module _ (problem : ProblemModel) (old new : MarkedBounds) (keeps : IsMatrixOf p
     (s : ℕ) (inside : s < length (spans_of problem)) where
   -- an upper bound on the distance of a span's edges
   pub Restricts-most : (m : ℤ) → AddsBound old.bounds new.bounds (span_at problem s).left (span_at problem s).right m →
-      Restricts problem old new (λ widths. pos (span_width problem widths s + gap_of problem.style) ≤ℤ m)
+      Restricts problem old new (λ widths. pos (span_width problem widths s + problem.spacing.gap) ≤ℤ m)
   Restricts-most m adds = record {
     keeps = record {
       sound = keeps.sound;
@@ -62,12 +61,12 @@ module _ (problem : ProblemModel) (old new : MarkedBounds) (keeps : IsMatrixOf p
     held = ap (λ matrix. matrix.held) rest;
     before = λ widths left. record { columns = left.columns; satisfies = adds.keeps (places problem widths) left.satisfies };
     fact = λ widths left.
-        let step = room-position (gap_of problem.style) widths (span_at problem s).left (span_at problem s).right
+        let step = room-position problem.spacing.gap widths (span_at problem s).left (span_at problem s).right
         (span-within problem keeps.sound s inside).0 in
         let apart = adds.adds (places problem widths) left.satisfies in
         omega (arith, ints, step, apart);
     all = λ widths left small.
-        let step = room-position (gap_of problem.style) widths (span_at problem s).left (span_at problem s).right
+        let step = room-position problem.spacing.gap widths (span_at problem s).left (span_at problem s).right
         (span-within problem keeps.sound s inside).0 in
         record {
           columns = left.columns;
@@ -79,7 +78,7 @@ module _ (problem : ProblemModel) (old new : MarkedBounds) (keeps : IsMatrixOf p
   -- a lower bound
   pub Restricts-least : (m n : ℤ) → n ≡ neg_ℤ m → AddsBound old.bounds new.bounds (span_at problem s).right
       (span_at problem s).left n →
-      Restricts problem old new (λ widths. m ≤ℤ pos (span_width problem widths s + gap_of problem.style))
+      Restricts problem old new (λ widths. m ≤ℤ pos (span_width problem widths s + problem.spacing.gap))
   Restricts-least m n is adds = record {
     keeps = record {
       sound = keeps.sound;
@@ -90,12 +89,12 @@ module _ (problem : ProblemModel) (old new : MarkedBounds) (keeps : IsMatrixOf p
     held = ap (λ matrix. matrix.held) rest;
     before = λ widths left. record { columns = left.columns; satisfies = adds.keeps (places problem widths) left.satisfies };
     fact = λ widths left.
-        let step = room-position (gap_of problem.style) widths (span_at problem s).left (span_at problem s).right
+        let step = room-position problem.spacing.gap widths (span_at problem s).left (span_at problem s).right
         (span-within problem keeps.sound s inside).0 in
         let apart = adds.adds (places problem widths) left.satisfies in
         omega (arith, ints, step, apart, is);
     all = λ widths left small.
-        let step = room-position (gap_of problem.style) widths (span_at problem s).left (span_at problem s).right
+        let step = room-position problem.spacing.gap widths (span_at problem s).left (span_at problem s).right
         (span-within problem keeps.sound s inside).0 in
         record {
           columns = left.columns;

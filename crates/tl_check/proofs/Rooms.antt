@@ -2,7 +2,6 @@
 use Rattle.std.proofs.Common.{◌≡◌, ℕ, ◌+◌, ◌<◌, ◌≤◌, ℤ, pos, neg_ℤ, ◌-ℤ◌, ◌≤ℤ◌, List, inl, inr, length, arith}
 use Rattle.std.proofs.lemmas.Int.{ints}
 use Rattle.std.proofs.lemmas.Bool.{cases_lt}
-use Rattle.tl_base.specs.Style.{gap_of}
 use Rattle.std.specs.Prelude.{Option, Some, None, MatchOption, IsSomeAnd}
 use Rattle.tl_base.specs.declared.limits.TheConstants.{MAX_PAGE_WIDTH}
 use Rattle.tl_diff.specs.Bounds.{Bounds, Implies, IsGreatest, HasNoGreatest}
@@ -99,34 +98,34 @@ module _ (problem : ProblemModel) (bounds : Bounds) (keeps : IsMatrixOf problem 
 
   -- what the constraints imply of the places of the span's edges they imply of its room, and back
   pub most-implied : (m : ℤ) → Implies bounds left_of right_of m → (widths : List ℕ) → AreAllowed problem bounds widths →
-      pos (span_width problem widths s + gap_of problem.style) ≤ℤ m
+      pos (span_width problem widths s + problem.spacing.gap) ≤ℤ m
   most-implied m all widths left =
-      let step = room-position (gap_of problem.style) widths left_of right_of (span-within problem keeps.sound s inside).0 in
+      let step = room-position problem.spacing.gap widths left_of right_of (span-within problem keeps.sound s inside).0 in
       let apart = all (places problem widths) left.satisfies in
       omega (arith, ints, step, apart)
 
   pub implied-most : (m : ℤ) → ((widths : List ℕ) → AreAllowed problem bounds widths →
-      pos (span_width problem widths s + gap_of problem.style) ≤ℤ m) →
+      pos (span_width problem widths s + problem.spacing.gap) ≤ℤ m) →
       Implies bounds left_of right_of m
   implied-most m all x meets =
       let span = span-within problem keeps.sound s inside in
       let at = left-room problem bounds keeps.page left_of right_of span.0 span.1 x meets in
-      let small = all (widths_of x (gap_of problem.style) problem.cols) (left-from problem bounds keeps.page x meets) in
+      let small = all (widths_of x problem.spacing.gap problem.cols) (left-from problem bounds keeps.page x meets) in
       omega (arith, ints, at, small)
 
   pub least-implied : (m n : ℤ) → n ≡ neg_ℤ m → Implies bounds right_of left_of n → (widths : List ℕ) →
       AreAllowed problem bounds widths →
-      m ≤ℤ pos (span_width problem widths s + gap_of problem.style)
+      m ≤ℤ pos (span_width problem widths s + problem.spacing.gap)
   least-implied m n is all widths left =
-      let step = room-position (gap_of problem.style) widths left_of right_of (span-within problem keeps.sound s inside).0 in
+      let step = room-position problem.spacing.gap widths left_of right_of (span-within problem keeps.sound s inside).0 in
       let apart = all (places problem widths) left.satisfies in
       omega (arith, ints, step, apart, is)
 
   pub implied-least : (m n : ℤ) → n ≡ neg_ℤ m →
-      ((widths : List ℕ) → AreAllowed problem bounds widths → m ≤ℤ pos (span_width problem widths s + gap_of problem.style)) →
+      ((widths : List ℕ) → AreAllowed problem bounds widths → m ≤ℤ pos (span_width problem widths s + problem.spacing.gap)) →
       Implies bounds right_of left_of n
   implied-least m n is all x meets =
       let span = span-within problem keeps.sound s inside in
       let at = left-room problem bounds keeps.page left_of right_of span.0 span.1 x meets in
-      let small = all (widths_of x (gap_of problem.style) problem.cols) (left-from problem bounds keeps.page x meets) in
+      let small = all (widths_of x problem.spacing.gap problem.cols) (left-from problem bounds keeps.page x meets) in
       omega (arith, ints, at, small, is)

@@ -1,7 +1,6 @@
 -- What a bound says, by its side.
 use Rattle.std.proofs.Common.{◌≡◌, ℕ, ◌+◌, ◌<◌, ◌≤◌, ℤ, pos, neg_ℤ, ◌-ℤ◌, ◌≤ℤ◌, Bool, IsTrue, ◌↔◌, List, length, sym, subst}
 use Rattle.tl_base.specs.declared.limits.TheConstants.{MAX_PAGE_WIDTH}
-use Rattle.tl_base.specs.Style.{gap_of}
 use Rattle.tl_diff.specs.Bounds.{Bounds}
 use Rattle.tl_diff.specs.Bounds as follows
 use Rattle.tl_diff.specs.Marks.{MarkedBounds}
@@ -24,7 +23,7 @@ module _ (problem : ProblemModel) (bound : Bound) (inside : bound.span < length 
     (same : bound.width ≤ MAX_PAGE_WIDTH → cut ≡ bound.width) (past : MAX_PAGE_WIDTH < bound.width →
     cut ≡ MAX_PAGE_WIDTH + 1) where
   abbrev gap : ℕ
-  gap = gap_of problem.style
+  gap = problem.spacing.gap
 
   abbrev room_of : List ℕ → ℕ
   room_of widths = span_width problem widths bound.span

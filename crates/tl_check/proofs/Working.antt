@@ -19,7 +19,6 @@ use Rattle.tl_problem.specs.Placements.{IsOpening}
 use Rattle.tl_problem.specs.Layouts.{WithinPage}
 use Rattle.tl_problem.specs.Zones.{IsZone, InZone, range_at, first_in_class, last_in_class}
 use Rattle.tl_problem.proofs.TightLaws.{least-unique, placement-unique}
-use Rattle.tl_base.specs.Style.{gap_of}
 use Rattle.tl_problem.proofs.BoundLaws.{bound-unique}
 use Rattle.tl_problem.proofs.SetLaws.{found_bound-same}
 use Rattle.tl_cert.specs.declared.trace.CutAt.{CutAt}
@@ -176,7 +175,7 @@ differ-next problem zone s r is before here d less =
 opening-unique : (problem : ProblemModel) (first second : Placed) → IsOpening problem first → IsOpening problem second →
     first ≡ second
 opening-unique problem first second one other = placement-unique problem first second
-    (least-unique (gap_of problem.style) (WithinPage problem) first.widths second.widths
+    (least-unique problem.spacing.gap (WithinPage problem) first.widths second.widths
     (one.placement.page.columns ∙ sym other.placement.page.columns) one.columns other.columns) one.placement other.placement
 
 module _ (problem : ProblemModel) (trace : List CutAt) (height lower budget opening : ℕ) (is : HasOpening problem opening) where

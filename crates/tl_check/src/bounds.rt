@@ -2,7 +2,6 @@
 //! leaves where it is met or broken.
 
 ghost use Rattle.std.specs.Prelude.{◌≡◌, ◌+◌, ◌<◌, ◌≤◌, length, pos, neg_ℤ, ◌≤ℤ◌, IsTrue, IsSomeAnd, ◌↔◌};
-ghost use Rattle.tl_base.specs.Style.{gap_of};
 ghost use Rattle.tl_diff.specs.Bounds as follows;
 ghost use Rattle.tl_diff.specs.Bounds.{IsSatisfiable};
 ghost use Rattle.tl_problem.specs.Spans.{spans_of};
@@ -45,7 +44,7 @@ pub fn is_implied(problem: &Problem, matrix: &Matrix, bound: Bound) -> bool
         return true;
     }
     let span = span_of(problem, bound);
-    let apart = (width_of(bound) + problem.style().gap()) as i32;
+    let apart = (width_of(bound) + problem.spacing().gap) as i32;
     match bound.side {
         Side::Most => is_near(matrix, span.left, span.right, apart),
         Side::Least => is_near(matrix, span.right, span.left, -apart),
@@ -80,7 +79,7 @@ pub fn keep_met(problem: &Problem, bound: Bound, matrix: &mut Matrix)
     requires keeps { IsMatrixOf problem.now matrix.old.bounds }
     ensures { Restricts problem.now matrix.old matrix.new (λ widths. Meets problem.now widths bound) }
 {
-    let apart = (width_of(bound) + problem.style().gap()) as i32;
+    let apart = (width_of(bound) + problem.spacing().gap) as i32;
     match bound.side {
         Side::Most => keep_at_most(problem, bound.span, apart, matrix),
         Side::Least => keep_at_least(problem, bound.span, apart, matrix),
@@ -93,7 +92,7 @@ pub fn keep_broken(problem: &Problem, bound: Bound, matrix: &mut Matrix)
     requires keeps { IsMatrixOf problem.now matrix.old.bounds }
     ensures { Restricts problem.now matrix.old matrix.new (λ widths. Breaks problem.now widths bound) }
 {
-    let apart = (width_of(bound) + problem.style().gap()) as i32;
+    let apart = (width_of(bound) + problem.spacing().gap) as i32;
     match bound.side {
         Side::Most => keep_at_least(problem, bound.span, apart + 1, matrix),
         Side::Least => keep_at_most(problem, bound.span, apart - 1, matrix),
@@ -106,7 +105,7 @@ fn keep_at_most(problem: &Problem, s: u32, apart: i32, matrix: &mut Matrix)
     requires keeps { IsMatrixOf problem.now matrix.old.bounds }
     requires low { neg_ℤ (pos MAX_BOUND) ≤ℤ apart }
     requires high { apart ≤ℤ pos MAX_BOUND }
-    ensures { Restricts problem.now matrix.old matrix.new (λ widths. pos (span_width problem.now widths s + gap_of problem.now.style) ≤ℤ apart) }
+    ensures { Restricts problem.now matrix.old matrix.new (λ widths. pos (span_width problem.now widths s + problem.now.spacing.gap) ≤ℤ apart) }
 {
     if matrix.holds() {
         let span = problem.spans()[s as usize];
@@ -120,7 +119,7 @@ fn keep_at_least(problem: &Problem, s: u32, apart: i32, matrix: &mut Matrix)
     requires keeps { IsMatrixOf problem.now matrix.old.bounds }
     requires low { neg_ℤ (pos MAX_BOUND) ≤ℤ apart }
     requires high { apart ≤ℤ pos MAX_BOUND }
-    ensures { Restricts problem.now matrix.old matrix.new (λ widths. apart ≤ℤ pos (span_width problem.now widths s + gap_of problem.now.style)) }
+    ensures { Restricts problem.now matrix.old matrix.new (λ widths. apart ≤ℤ pos (span_width problem.now widths s + problem.now.spacing.gap)) }
 {
     if matrix.holds() {
         let span = problem.spans()[s as usize];

@@ -254,7 +254,7 @@ fn last_width(problem: &Problem, s: u32, class: u32) -> u32
 {
     match problem.classes(s).get(class as usize + 1) {
         Some(next) => next.saturating_sub(1),
-        None => problem.width().saturating_sub(2 * problem.style().edge()),
+        None => problem.width().saturating_sub(problem.spacing().edges),
     }
 }
 

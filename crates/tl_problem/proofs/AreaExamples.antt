@@ -1,6 +1,7 @@
 -- The area bound of two cells side by side, `a a` and `b b`, on seven columns, counted by hand. Each cell has from one
 -- column to four; it needs two lines in one or two columns, and one line from three on. Each has an area of 5 at least,
 -- at three columns with the gap, and the columns end at place 9 at most: 10 in 9 is two lines. One line is not enough.
+use Rattle.tl_base.specs.Style.{spacing_of}
 use Rattle.std.proofs.Common.{◌≡◌, ℕ, ◌+◌, ◌*◌, ◌≤◌, List, [], ◌∷◌, length, Some, refl, subst, inl, inr, arith}
 use Rattle.std.proofs.lemmas.Bool.{cases_lt}
 use Rattle.std.proofs.lemmas.List.Elements.{All-from_recursion}
@@ -25,7 +26,7 @@ abbrev second : Cell
 second = cell 1 2 0 1 two_words
 
 abbrev side_by_side : ProblemModel
-side_by_side = record { cols = 2; rows = 1; style = Plain; width = 7; cells = first ∷ second ∷ [] }
+side_by_side = record { cols = 2; rows = 1; spacing = spacing_of Plain; width = 7; cells = first ∷ second ∷ [] }
 
 fits : (a b : ℕ) → 1 ≤ a → 1 ≤ b → a + b ≤ 5 → WithinPage side_by_side (a ∷ b ∷ [])
 fits a b one other page = record {

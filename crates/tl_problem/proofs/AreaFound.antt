@@ -11,9 +11,6 @@ use Rattle.std.proofs.lemmas.List.{length_push, get_or_default}
 use Rattle.std.proofs.lemmas.List.Sums.{sum_by-cons, sum_by_push, get_or-le-sum_by}
 use Rattle.std.proofs.Math.Nat.{mul-le-mul, mul-le-mul_right}
 use Rattle.tl_base.specs.declared.limits.TheConstants.{MAX_HEIGHT, MAX_PAGE_WIDTH}
-use Rattle.tl_base.specs.Style.{gap_of, row_gap_of, edge_of}
-use Rattle.tl_base.specs.declared.style.Style.{Style}
-use Rattle.tl_base.specs.declared.style.Style.TheVariants.{Plain, Compact, Frame}
 use Rattle.tl_base.specs.Steps.{height_at, first_height}
 use Rattle.tl_diff.specs.Bounds.{Bounds, IsGreatest, HasNoGreatest}
 use Rattle.tl_problem.specs.declared.cell.Cell.{Cell}
@@ -32,18 +29,7 @@ use Rattle.tl_base.proofs.SizeLaws.{total-position, room-position, position-mono
 use Rattle.tl_base.proofs.Zips.{AllZip-from_places}
 use Rattle.tl_problem.proofs.NeedLemmas.{upto-push, all-most, sum-le, height-le, low-le}
 use Rattle.tl_problem.proofs.WorkLemmas.{left-from, left-position}
-use Rattle.tl_problem.proofs.ConstraintLemmas.{gap-few, gap-some}
 use Rattle.tl_problem.proofs.AreaSteps.{least-below, least-attained}
-
-row_gap-few : (style : Style) → row_gap_of style ≤ 1
-row_gap-few Plain = omega arith
-row_gap-few Compact = omega arith
-row_gap-few Frame = omega arith
-
-pub edge-few : (style : Style) → edge_of style ≤ 1
-edge-few Plain = omega arith
-edge-few Compact = omega arith
-edge-few Frame = omega arith
 
 -- ---- the least area of one cell
 
@@ -51,15 +37,15 @@ module _ (problem : ProblemModel) (Among : List ℕ → Type 0) (cell : Cell) (l
     (sound : IsSoundCell problem cell)
     (narrow : IsLeastRoom problem Among cell.left cell.right low) (wide : IsGreatestRoom problem Among cell.left cell.right high)
     (is : height_at cell.low low ≡ Some first)
-    (h : IsLeastStep (gap_of problem.style) (row_gap_of problem.style) cell.low (length cell.low) low high
-    (area_with (gap_of problem.style) (row_gap_of problem.style) low first) least) where
+    (h : IsLeastStep problem.spacing.gap problem.spacing.row_gap cell.low (length cell.low) low high
+    (area_with problem.spacing.gap problem.spacing.row_gap low first) least) where
   low-high : low ≤ high
   low-high = omega (arith, narrow.attained.2, wide.never_more narrow.attained.0 narrow.attained.1)
 
   pub IsLeastArea-found : IsLeastArea problem Among cell least
   IsLeastArea-found = record {
     attained =
-        let at = least-attained (gap_of problem.style) (row_gap_of problem.style)
+        let at = least-attained problem.spacing.gap problem.spacing.row_gap
         cell.low sound.steps.0 low high first least is h low-high in (
           at.0,
           at.1.0,
@@ -71,7 +57,7 @@ module _ (problem : ProblemModel) (Among : List ℕ → Type 0) (cell : Cell) (l
           at.1.1.1.1.1,
         );
     never_less = λ w k between here.
-        least-below (gap_of problem.style) (row_gap_of problem.style) cell.low sound.steps.0 low high first least is h w k
+        least-below problem.spacing.gap problem.spacing.row_gap cell.low sound.steps.0 low high first least is h w k
         (omega (arith, narrow.never_less between.no_more.0 between.no_more.1, between.no_more.2))
         (omega (arith, wide.never_more between.no_less.0 between.no_less.1, between.no_less.2)) here;
   }
@@ -128,16 +114,16 @@ rounded-up n divisor some =
 module _ (problem : ProblemModel) (sound : IsSound problem) (bounds : Bounds) (keeps : KeepsPage problem bounds)
     (some : 0 < problem.cols) where
   end-small : (widths : List ℕ) → WithinPage problem widths →
-      position (gap_of problem.style) widths problem.cols ≤ MAX_PAGE_WIDTH + 2
+      position problem.spacing.gap widths problem.cols ≤ MAX_PAGE_WIDTH + 2
   end-small widths page =
-      let whole = total-position (gap_of problem.style) (edge_of problem.style) widths (omega (arith, page.columns)) in
-      let at = ap (position (gap_of problem.style) widths) page.columns in
-      omega (arith, whole, at, page.page, sound.narrow, gap-few problem.style)
+      let whole = total-position problem.spacing.gap problem.spacing.edges widths (omega (arith, page.columns)) in
+      let at = ap (position problem.spacing.gap widths) page.columns in
+      omega (arith, whole, at, page.page, sound.narrow, sound.spaced.near)
 
   pub end-some : HasNoGreatest bounds 0 problem.cols → ⊥
   end-some none =
       let more = none (pos (2 * MAX_PAGE_WIDTH)) in
-      let widths = widths_of more.0 (gap_of problem.style) problem.cols in
+      let widths = widths_of more.0 problem.spacing.gap problem.cols in
       let at = left-position problem bounds keeps more.0 more.1.0 problem.cols (omega arith) in
       let small = end-small widths (keeps.page widths (left-from problem bounds keeps more.0 more.1.0)) in
       omega (arith, ints, more.1.1, at, small)
@@ -147,13 +133,13 @@ module _ (problem : ProblemModel) (sound : IsSound problem) (bounds : Bounds) (k
       ((0 < end) × (end ≤ MAX_PAGE_WIDTH + 2))))
   greatest-end most is =
       let x = is.reached.0 in
-      let widths = widths_of x (gap_of problem.style) problem.cols in
+      let widths = widths_of x problem.spacing.gap problem.cols in
       let left = left-from problem bounds keeps x is.reached.1.0 in
       let at = left-position problem bounds keeps x is.reached.1.0 problem.cols (omega arith) in
-      let end = position (gap_of problem.style) widths problem.cols in
+      let end = position problem.spacing.gap widths problem.cols in
       let same : most ≡ pos end = omega (arith, ints, at, is.reached.1.1) in
-      let one = position-mono (gap_of problem.style) widths 1 problem.cols (omega arith) in
-      let first : 1 ≤ position (gap_of problem.style) widths 1 = omega (arith, gap-some problem.style) in (
+      let one = position-mono problem.spacing.gap widths 1 problem.cols (omega arith) in
+      let first : 1 ≤ position problem.spacing.gap widths 1 = omega (arith, sound.spaced.apart) in (
         end,
         (
           same,
@@ -192,11 +178,11 @@ module _ (problem : ProblemModel) (sound : IsSound problem) (Among : List ℕ �
         no_less =
             (widths, among, omega arith);
       }) found.1 in
-      let place = room-position (gap_of problem.style) widths cell.left cell.right sound_cell.columns.0 in
-      let far = position-mono (gap_of problem.style) widths cell.right problem.cols sound_cell.columns.1 in
-      let wide : w + gap_of problem.style ≤ end = omega (arith, place, far, greatest.attained.2) in
-      let tall : found.0 + row_gap_of problem.style ≤ first_height cell.high + 1 =
-      omega (arith, low, most, row_gap-few problem.style) in
+      let place = room-position problem.spacing.gap widths cell.left cell.right sound_cell.columns.0 in
+      let far = position-mono problem.spacing.gap widths cell.right problem.cols sound_cell.columns.1 in
+      let wide : w + problem.spacing.gap ≤ end = omega (arith, place, far, greatest.attained.2) in
+      let tall : found.0 + problem.spacing.row_gap ≤ first_height cell.high + 1 =
+      omega (arith, low, most, sound.spaced.close) in
       omega (arith, below, mul-le-mul wide tall)
 
   scaled : (cells : List Cell) → sum_by (λ c. end * (first_height c.high + 1)) cells ≡ end *
@@ -243,7 +229,7 @@ module _ (problem : ProblemModel) (sound : IsSound problem) (Among : List ℕ �
       omega (arith, all, h.count, h.sums)
 
   pub IsAreaBound-found : (total : ℕ) → 0 < problem.cols → 0 < end → HaveAreas problem Among (length problem.cells) total →
-      IsAreaBound problem Among (2 * edge_of problem.style + div_ceil total end - row_gap_of problem.style)
+      IsAreaBound problem Among (problem.spacing.lines + div_ceil total end - problem.spacing.row_gap)
   IsAreaBound-found total some_columns some h = record {
     some = (greatest.attained.0, greatest.attained.1);
     no_column = λ none. absurd (omega (arith, none));

@@ -3,7 +3,6 @@ use Rattle.std.proofs.Common.{◌≡◌, refl, ℕ, ◌+◌, ◌*◌, ◌<◌, �
 use Rattle.std.specs.List.{All, AllZip, sum_by}
 use Rattle.std.proofs.lemmas.Bool.{cases_lt}
 use Rattle.std.proofs.lemmas.List.Sums.{sum_by-cons}
-use Rattle.tl_base.specs.Style.{gap_of, row_gap_of, edge_of}
 use Rattle.tl_problem.specs.declared.cell.Cell.{Cell}
 use Rattle.tl_base.specs.Sizes.{position}
 use Rattle.tl_problem.specs.Problem.{ProblemModel, total_height, cell_width, cell_height}
@@ -41,18 +40,18 @@ module _ (problem : ProblemModel) (sound : IsSound problem) (Among : List ℕ �
     Type 0) (widths heights : List ℕ) (among : Among widths) (layout : IsLayoutByLow problem widths heights) where
   -- where columns and rows begin under the layout
   x_at : ℕ → ℕ
-  x_at n = position (gap_of problem.style) widths n
+  x_at n = position problem.spacing.gap widths n
 
   y_at : ℕ → ℕ
-  y_at n = position (row_gap_of problem.style) heights n
+  y_at n = position problem.spacing.row_gap heights n
 
   x_rising : (n : ℕ) → x_at n ≤ x_at (n + 1)
   unfolding x_at
-  x_rising n = position-mono (gap_of problem.style) widths n (n + 1) (omega arith)
+  x_rising n = position-mono problem.spacing.gap widths n (n + 1) (omega arith)
 
   y_rising : (n : ℕ) → y_at n ≤ y_at (n + 1)
   unfolding y_at
-  y_rising n = position-mono (row_gap_of problem.style) heights n (n + 1) (omega arith)
+  y_rising n = position-mono problem.spacing.row_gap heights n (n + 1) (omega arith)
 
   -- what a cell takes of the grid, with a gap at its right and one below
   taken : Cell → ℕ
@@ -71,14 +70,13 @@ module _ (problem : ProblemModel) (sound : IsSound problem) (Among : List ℕ �
       let never = least.never_less (cell_width problem widths cell) found.0 here found.1 in
       let across = late x_at x_rising cell.left cell.right problem.cols (omega (arith, whole.columns.0)) whole.columns.1 in
       let down = late y_at y_rising cell.top cell.bottom problem.rows (omega (arith, whole.rows.0)) whole.rows.1 in
-      let wide = room-position (gap_of problem.style) widths cell.left cell.right whole.columns.0 in
-      let high = room-position (row_gap_of problem.style) heights cell.top cell.bottom whole.rows.0 in
-      let columns : amount x_at x_rising cell.left cell.right problem.cols ≡ cell_width problem widths cell + gap_of
-      problem.style =
+      let wide = room-position problem.spacing.gap widths cell.left cell.right whole.columns.0 in
+      let high = room-position problem.spacing.row_gap heights cell.top cell.bottom whole.rows.0 in
+      let columns : amount x_at x_rising cell.left cell.right problem.cols ≡ cell_width problem widths cell + problem.spacing.gap =
       omega (arith, across, wide) in
-      let rows : found.0 + row_gap_of problem.style ≤ amount y_at y_rising cell.top cell.bottom problem.rows =
+      let rows : found.0 + problem.spacing.row_gap ≤ amount y_at y_rising cell.top cell.bottom problem.rows =
       omega (arith, down, high, found.2) in
-      let more = times_more (cell_width problem widths cell + gap_of problem.style) (found.0 + row_gap_of problem.style)
+      let more = times_more (cell_width problem widths cell + problem.spacing.gap) (found.0 + problem.spacing.row_gap)
       (amount y_at y_rising cell.top cell.bottom problem.rows) rows in
       let turned = ap (λ a. a * amount y_at y_rising cell.top cell.bottom problem.rows) columns in
       omega (arith, never, more, turned) where
@@ -104,8 +102,8 @@ module _ (problem : ProblemModel) (sound : IsSound problem) (Among : List ℕ �
             let end = hold.greatest.never_more widths among in
             let more = turned_more (x_at problem.cols) hold.end (y_at problem.rows) end in
             let lines = hold.rounded.least (y_at problem.rows) (omega (arith, each, within, more)) in
-            let whole = total-position (row_gap_of problem.style) (edge_of problem.style) heights rows in
-            let all = ap (position (row_gap_of problem.style) heights) layout.enough.rows in
+            let whole = total-position problem.spacing.row_gap problem.spacing.lines heights rows in
+            let all = ap (position problem.spacing.row_gap heights) layout.enough.rows in
             omega (arith, held.2, lines, whole, all)
       ]
 

@@ -7,9 +7,6 @@ use Rattle.std.proofs.lemmas.Bool.{cases_eq, cases_lt}
 use Rattle.std.proofs.lemmas.List.{get_or_default, get_or_past}
 use Rattle.std.proofs.lemmas.List.Elements.{Contains-get_or}
 use Rattle.tl_base.specs.declared.limits.TheConstants.{MAX_PAGE_WIDTH}
-use Rattle.tl_base.specs.Style.{gap_of, edge_of}
-use Rattle.tl_base.specs.declared.style.Style.{Style}
-use Rattle.tl_base.specs.declared.style.Style.TheVariants.{Plain, Compact, Frame}
 use Rattle.tl_base.specs.Steps.{first_width}
 use Rattle.tl_diff.specs.Bounds.{Bounds, Satisfies, IsSatisfiable, HasNoGreatest, IsLeast}
 use Rattle.tl_diff.specs.Marks.{MarkedBounds}
@@ -33,11 +30,6 @@ use Rattle.tl_problem.proofs.ZoneLaws.{span-within}
 use Rattle.tl_problem.proofs.NeedLemmas.{All-from_numbers}
 use Rattle.tl_problem.proofs.WorkLemmas.{left-from, left-room, left-position}
 
-pub gap-some : (style : Style) → 1 ≤ gap_of style
-gap-some Plain = omega arith
-gap-some Compact = omega arith
-gap-some Frame = omega arith
-
 position-start : (gap : ℕ) (widths : List ℕ) → position gap widths 0 ≡ 0
 position-start gap widths = omega arith
 
@@ -51,7 +43,7 @@ page-satisfiable problem columns spans matrix h = let fits = h.sound.fits in
 
 module _ (problem : ProblemModel) (k : ℕ) (old new : MarkedBounds) where
   pub PageUpto-gap : (spans : ℕ) → k < problem.cols → PageUpto problem k spans old →
-      AddsFact old new (λ x. StandApart x k (k + 1) (gap_of problem.style)) →
+      AddsFact old new (λ x. StandApart x k (k + 1) problem.spacing.gap) →
       PageUpto problem (k + 1) spans new
   PageUpto-gap spans inside h adds = record {
     sound = h.sound;
@@ -60,7 +52,7 @@ module _ (problem : ProblemModel) (k : ℕ) (old new : MarkedBounds) where
     none_held = adds.held ∙ h.none_held;
     whole = λ widths page.
         let before = h.whole widths page in
-        let step = position-gap (gap_of problem.style) widths k in
+        let step = position-gap problem.spacing.gap widths k in
         record {
           columns = before.columns;
           satisfies = adds.all (places problem widths) before.satisfies
@@ -75,7 +67,7 @@ module _ (problem : ProblemModel) (k : ℕ) (old new : MarkedBounds) where
 
   pub PageUpto-room : k < length (spans_of problem) → PageUpto problem 0 k old →
       AddsFact old new (λ x. StandApart x (span_at problem k).left (span_at problem k).right
-      (first_in_class problem k 0 + gap_of problem.style)) → PageUpto problem 0 (k + 1) new
+      (first_in_class problem k 0 + problem.spacing.gap)) → PageUpto problem 0 (k + 1) new
   PageUpto-room inside h adds = record {
     sound = h.sound;
     variables = adds.variables ∙ h.variables;
@@ -85,7 +77,7 @@ module _ (problem : ProblemModel) (k : ℕ) (old new : MarkedBounds) where
         let before = h.whole widths page in
         let columns = span_at problem k in
         let ahead = (span-within problem h.sound k inside).0 in
-        let step = room-position (gap_of problem.style) widths columns.left columns.right ahead in
+        let step = room-position problem.spacing.gap widths columns.left columns.right ahead in
         let least = least_width-within problem columns widths page in
         record {
           columns = before.columns;
@@ -102,10 +94,10 @@ module _ (problem : ProblemModel) (k : ℕ) (old new : MarkedBounds) where
 -- a cell has its least width where its span has that of its first class
 cell-apart : (problem : ProblemModel) → IsSound problem → (x : ℕ → ℤ) →
     ((s : ℕ) → s < length (spans_of problem) →
-    StandApart x (span_at problem s).left (span_at problem s).right (first_in_class problem s 0 + gap_of problem.style)) →
+    StandApart x (span_at problem s).left (span_at problem s).right (first_in_class problem s 0 + problem.spacing.gap)) →
     (k : ℕ) → k < length problem.cells →
     StandApart x (cell_at problem.cells k).left (cell_at problem.cells k).right
-    (first_width (cell_at problem.cells k).low + gap_of problem.style)
+    (first_width (cell_at problem.cells k).low + problem.spacing.gap)
 cell-apart problem sound x rooms k within =
     let cell = cell_at problem.cells k in
     let has = Contains-get_or problem.cells k no_cell within in
@@ -119,29 +111,29 @@ cell-apart problem sound x rooms k within =
 
 module _ (problem : ProblemModel) (old new : MarkedBounds) (h : PageUpto problem problem.cols (length (spans_of problem)) old)
     (adds : AddsFact old new
-    (λ x. AreNear x 0 problem.cols (problem.width + gap_of problem.style - 2 * edge_of problem.style))) where
+    (λ x. AreNear x 0 problem.cols (problem.width + problem.spacing.gap - problem.spacing.edges))) where
   total-within : (widths : List ℕ) → length widths ≡ problem.cols →
-      position (gap_of problem.style) widths problem.cols ≤ problem.width + gap_of problem.style - 2 * edge_of problem.style →
+      position problem.spacing.gap widths problem.cols ≤ problem.width + problem.spacing.gap - problem.spacing.edges →
       total_width problem widths ≤ problem.width
   total-within [] columns ends = omega arith
   total-within (w ∷ widths) columns ends =
-      let whole = total-position (gap_of problem.style) (edge_of problem.style) (w ∷ widths) (omega arith) in
-      let at = ap (position (gap_of problem.style) (w ∷ widths)) columns in
-      let one = position-mono (gap_of problem.style) (w ∷ widths) 1 problem.cols (omega (arith, columns)) in
-      let first = position-gap (gap_of problem.style) (w ∷ widths) 0 in
-      let some = gap-some problem.style in
+      let whole = total-position problem.spacing.gap problem.spacing.edges (w ∷ widths) (omega arith) in
+      let at = ap (position problem.spacing.gap (w ∷ widths)) columns in
+      let one = position-mono problem.spacing.gap (w ∷ widths) 1 problem.cols (omega (arith, columns)) in
+      let first = position-gap problem.spacing.gap (w ∷ widths) 0 in
+      let some = h.sound.spaced.apart in
       omega (arith, whole, at, one, first, some, ends)
 
   ends-within : (widths : List ℕ) → WithinPage problem widths →
-      position (gap_of problem.style) widths problem.cols ≤ problem.width + gap_of problem.style - 2 * edge_of problem.style
+      position problem.spacing.gap widths problem.cols ≤ problem.width + problem.spacing.gap - problem.spacing.edges
   ends-within widths page =
       elim (cases_lt 0 problem.cols) [
         | inr none ↦
             let zero_cols : problem.cols ≡ 0 = omega arith in
-            rw zero_cols (omega (arith, position-start (gap_of problem.style) widths))
+            rw zero_cols (omega (arith, position-start problem.spacing.gap widths))
         | inl some ↦
-            let whole = total-position (gap_of problem.style) (edge_of problem.style) widths (omega (arith, page.columns)) in
-            let at = ap (position (gap_of problem.style) widths) page.columns in
+            let whole = total-position problem.spacing.gap problem.spacing.edges widths (omega (arith, page.columns)) in
+            let at = ap (position problem.spacing.gap widths) page.columns in
             omega (arith, whole, at, page.page)
       ]
 
@@ -151,7 +143,7 @@ module _ (problem : ProblemModel) (old new : MarkedBounds) (h : PageUpto problem
     gaps = λ x meets k below. h.gaps x (adds.keeps x meets) k below;
     page = λ widths left.
         let ends = adds.adds (places problem widths) left.satisfies in
-        let start = position-start (gap_of problem.style) widths in
+        let start = position-start problem.spacing.gap widths in
         record {
           columns = left.columns;
           page = total-within widths left.columns (omega (arith, ints, ends, start));
@@ -159,7 +151,7 @@ module _ (problem : ProblemModel) (old new : MarkedBounds) (h : PageUpto problem
               let cell = cell_at problem.cells k in
               let apart = cell-apart problem h.sound (places problem widths)
               (h.rooms (places problem widths) (adds.keeps (places problem widths) left.satisfies)) k within in
-              let step = room-position (gap_of problem.style) widths cell.left cell.right
+              let step = room-position problem.spacing.gap widths cell.left cell.right
               (h.sound.cells k no_cell within).columns.0 in
               omega (arith, ints, apart, step));
         };
@@ -169,7 +161,7 @@ module _ (problem : ProblemModel) (old new : MarkedBounds) (h : PageUpto problem
   whole-ends widths page =
       let before = h.whole widths page in
       let ends = ends-within widths page in
-      let start = position-start (gap_of problem.style) widths in
+      let start = position-start problem.spacing.gap widths in
       record {
         columns = before.columns;
         satisfies = adds.all (places problem widths) before.satisfies
@@ -214,7 +206,7 @@ module _ (problem : ProblemModel) (sound : IsSound problem) (zone : List Range) 
   pub first-kept : (bounds : Bounds) → KeepsPage problem bounds → (range_at zone s).first ≡ 0 → (x : ℕ → ℤ) →
       Satisfies bounds x → HasFirst problem zone s x
   first-kept bounds keeps none x meets =
-      let widths = widths_of x (gap_of problem.style) problem.cols in
+      let widths = widths_of x problem.spacing.gap problem.cols in
       let span = span-within problem sound s inside in
       let at = left-room problem bounds keeps left_of right_of span.0 span.1 x meets in
       let page = keeps.page widths (left-from problem bounds keeps x meets) in
@@ -227,7 +219,7 @@ module _ (problem : ProblemModel) (sound : IsSound problem) (zone : List Range) 
       (x : ℕ → ℤ) →
       Satisfies bounds x → HasLast problem zone s x
   last-kept bounds keeps all x meets =
-      let widths = widths_of x (gap_of problem.style) problem.cols in
+      let widths = widths_of x problem.spacing.gap problem.cols in
       let span = span-within problem sound s inside in
       let at = left-room problem bounds keeps left_of right_of span.0 span.1 x meets in
       let page = keeps.page widths (left-from problem bounds keeps x meets) in
@@ -239,25 +231,25 @@ module _ (problem : ProblemModel) (sound : IsSound problem) (zone : List Range) 
   range-first : (widths : List ℕ) → HasFirst problem zone s (places problem widths) →
       first_in_class problem s (range_at zone s).first ≤ span_width problem widths s
   range-first widths has =
-      let step = room-position (gap_of problem.style) widths left_of right_of (span-within problem sound s inside).0 in
+      let step = room-position problem.spacing.gap widths left_of right_of (span-within problem sound s inside).0 in
       omega (arith, ints, step, has)
 
   first-range : (widths : List ℕ) → first_in_class problem s (range_at zone s).first ≤ span_width problem widths s →
       HasFirst problem zone s (places problem widths)
   first-range widths has =
-      let step = room-position (gap_of problem.style) widths left_of right_of (span-within problem sound s inside).0 in
+      let step = room-position problem.spacing.gap widths left_of right_of (span-within problem sound s inside).0 in
       omega (arith, ints, step, has)
 
   range-last : (widths : List ℕ) → HasLast problem zone s (places problem widths) →
       span_width problem widths s ≤ last_in_class problem s (range_at zone s).last
   range-last widths has =
-      let step = room-position (gap_of problem.style) widths left_of right_of (span-within problem sound s inside).0 in
+      let step = room-position problem.spacing.gap widths left_of right_of (span-within problem sound s inside).0 in
       omega (arith, ints, step, has)
 
   last-range : (widths : List ℕ) → span_width problem widths s ≤ last_in_class problem s (range_at zone s).last →
       HasLast problem zone s (places problem widths)
   last-range widths has =
-      let step = room-position (gap_of problem.style) widths left_of right_of (span-within problem sound s inside).0 in
+      let step = room-position problem.spacing.gap widths left_of right_of (span-within problem sound s inside).0 in
       omega (arith, ints, step, has)
 
   module _ (in_zone : s < length zone) (old mid : MarkedBounds) (h : AddsRanges problem zone s old mid (Unit {0})) where
@@ -352,14 +344,9 @@ same-matrix a b marks bounds held = made (λ m n h. record { marks = m; bounds =
 
 pub room-small : (problem : ProblemModel) → IsSound problem → (widths : List ℕ) → WithinPage problem widths → (left right : ℕ) →
     left < right →
-    right ≤ problem.cols → room (gap_of problem.style) widths left right ≤ MAX_PAGE_WIDTH
+    right ≤ problem.cols → room problem.spacing.gap widths left right ≤ MAX_PAGE_WIDTH
 room-small problem sound widths page left right ahead within =
     omega (arith, room-in_page problem widths page left right ahead within, sound.narrow)
-
-pub gap-few : (style : Style) → gap_of style ≤ 2
-gap-few Plain = omega arith
-gap-few Compact = omega arith
-gap-few Frame = omega arith
 
 module _ (problem : ProblemModel) (sound : IsSound problem) (bounds : Bounds) (keeps : KeepsPage problem bounds) (left right : ℕ)
     (ahead : left < right) (within : right ≤ problem.cols) where
@@ -372,10 +359,10 @@ module _ (problem : ProblemModel) (sound : IsSound problem) (bounds : Bounds) (k
   greatest-some none =
       let more = none (pos (2 * MAX_PAGE_WIDTH)) in
       let at = left-room problem bounds keeps left right ahead within more.0 more.1.0 in
-      let page = keeps.page (widths_of more.0 (gap_of problem.style) problem.cols)
+      let page = keeps.page (widths_of more.0 problem.spacing.gap problem.cols)
       (left-from problem bounds keeps more.0 more.1.0) in
-      let small = room-small problem sound (widths_of more.0 (gap_of problem.style) problem.cols) page left right ahead within in
-      omega (arith, ints, more.1.1, at, small, gap-few problem.style)
+      let small = room-small problem sound (widths_of more.0 problem.spacing.gap problem.cols) page left right ahead within in
+      omega (arith, ints, more.1.1, at, small, sound.spaced.near)
 
   pub least-small : (w : ℕ) → IsLeastRoom problem (AreAllowed problem bounds) left right w → w ≤ MAX_PAGE_WIDTH
   least-small w is =
@@ -443,13 +430,13 @@ module _ (problem : ProblemModel) (bounds : Bounds) (keeps : KeepsPage problem b
       omega (arith, ints, more.1.1, at)
 
   module _ (x : ℕ → ℤ) (is : IsLeast bounds x) where
-    pub least-left : AreLeast (gap_of problem.style) (AreAllowed problem bounds) (widths_of x (gap_of problem.style) problem.cols)
+    pub least-left : AreLeast problem.spacing.gap (AreAllowed problem bounds) (widths_of x problem.spacing.gap problem.cols)
     least-left = record {
       kind = left-from problem bounds keeps x is.satisfies;
       earliest = λ other kind place within.
           let inside : place ≤ problem.cols = omega (arith, (left-from problem bounds keeps x is.satisfies).columns) in
           let at = left-position problem bounds keeps x is.satisfies place inside in
-          let start = position-start (gap_of problem.style) other in
+          let start = position-start problem.spacing.gap other in
           let less = is.least (places problem other) kind.satisfies (ap pos start) place (omega (arith, keeps.variables)) in
           omega (arith, ints, at, less, is.starts);
     }
@@ -457,7 +444,7 @@ module _ (problem : ProblemModel) (bounds : Bounds) (keeps : KeepsPage problem b
     -- the least places are within the page
     pub place-small : IsSound problem → (k : ℕ) → k ≤ problem.cols → (pos 0 ≤ℤ x k) × (x k ≤ℤ pos (MAX_PAGE_WIDTH + 2))
     place-small sound k up =
-        let widths = widths_of x (gap_of problem.style) problem.cols in
+        let widths = widths_of x problem.spacing.gap problem.cols in
         let left = left-from problem bounds keeps x is.satisfies in
         let at = left-position problem bounds keeps x is.satisfies k up in
         let page = keeps.page widths left in
@@ -466,9 +453,9 @@ module _ (problem : ProblemModel) (bounds : Bounds) (keeps : KeepsPage problem b
               let here : k ≡ 0 = omega arith in
               rw here (omega (arith, ints, is.starts), omega (arith, ints, is.starts))
           | inl some ↦
-              let whole = total-position (gap_of problem.style) (edge_of problem.style) widths (omega (arith, left.columns)) in
-              let ends = ap (position (gap_of problem.style) widths) left.columns in
-              let before = position-mono (gap_of problem.style) widths k problem.cols up in (
+              let whole = total-position problem.spacing.gap problem.spacing.edges widths (omega (arith, left.columns)) in
+              let ends = ap (position problem.spacing.gap widths) left.columns in
+              let before = position-mono problem.spacing.gap widths k problem.cols up in (
                 omega (arith, ints, at, is.starts),
                 omega (
                   arith,
@@ -480,7 +467,7 @@ module _ (problem : ProblemModel) (bounds : Bounds) (keeps : KeepsPage problem b
                   before,
                   page.page,
                   sound.narrow,
-                  gap-few problem.style,
+                  sound.spaced.near,
                 ),
               )
         ]

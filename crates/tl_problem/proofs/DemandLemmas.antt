@@ -9,7 +9,6 @@ use Rattle.std.proofs.lemmas.List.{length-append, take_all, take-append-le, leng
 use Rattle.std.proofs.lemmas.List.Sums.{sum_by-append, sum_by-cons}
 use Rattle.std.proofs.Math.Nat.{mul-le-mul}
 use Rattle.tl_base.specs.declared.limits.TheConstants.{MAX_COLUMNS, MAX_ROWS}
-use Rattle.tl_base.specs.Style.{row_gap_of, edge_of}
 use Rattle.tl_diff.specs.declared.paths.Arc.{Arc}
 use Rattle.tl_diff.specs.Paths.{arc_at, IsPath, path_weight, total_weight, LeadForward, InOrder}
 use Rattle.tl_diff.proofs.PathLaws.{IsHeaviest-further, IsHeaviest-along}
@@ -294,7 +293,7 @@ module _ (problem : ProblemModel) (axis : Axis) (demands ends : List ℕ) (h : H
 
 -- the least total height
 module _ (problem : ProblemModel) (demands ends : List ℕ) (h : HaveEnds problem Rows demands ends) where
-  pub least_total-none : problem.rows ≡ 0 → IsLeastTotal (row_gap_of problem.style) (edge_of problem.style)
+  pub least_total-none : problem.rows ≡ 0 → IsLeastTotal problem.spacing.row_gap problem.spacing.lines
       (GiveDemands problem Rows demands) 0
   least_total-none none = record {
     attained = (
@@ -312,28 +311,28 @@ module _ (problem : ProblemModel) (demands ends : List ℕ) (h : HaveEnds proble
   gaps_more : (gap n : ℕ) → gap * (n + 1) ≡ gap * n + gap
   gaps_more gap n = grind arith
 
-  total-is : 0 < problem.rows → total (row_gap_of problem.style) (edge_of problem.style) (sizes problem Rows demands ends h) ≡
-      get_or ends problem.rows 0 + row_gap_of problem.style * (problem.rows - 1) + 2 * edge_of problem.style
+  total-is : 0 < problem.rows → total problem.spacing.row_gap problem.spacing.lines (sizes problem Rows demands ends h) ≡
+      get_or ends problem.rows 0 + problem.spacing.row_gap * (problem.rows - 1) + problem.spacing.lines
   total-is some =
       let least = sizes problem Rows demands ends h in
       let count = rises-length (λ k. get_or ends k 0) problem.rows in
-      let whole = total-position (row_gap_of problem.style) (edge_of problem.style) least (omega (arith, count)) in
+      let whole = total-position problem.spacing.row_gap problem.spacing.lines least (omega (arith, count)) in
       let last = sizes-sum problem Rows demands ends h problem.rows (omega arith) in
-      let at = ap (position (row_gap_of problem.style) least) count in
+      let at = ap (position problem.spacing.row_gap least) count in
       let rows : problem.rows - 1 + 1 ≡ problem.rows = omega arith in
-      let counted = rw rows at (gaps_more (row_gap_of problem.style) (problem.rows - 1)) in
+      let counted = rw rows at (gaps_more problem.spacing.row_gap (problem.rows - 1)) in
       omega (arith, whole, last, at, counted)
 
-  pub least_total-some : 0 < problem.rows → IsLeastTotal (row_gap_of problem.style) (edge_of problem.style)
+  pub least_total-some : 0 < problem.rows → IsLeastTotal problem.spacing.row_gap problem.spacing.lines
       (GiveDemands problem Rows demands)
-      (get_or ends problem.rows 0 + row_gap_of problem.style * (problem.rows - 1) + 2 * edge_of problem.style)
+      (get_or ends problem.rows 0 + problem.spacing.row_gap * (problem.rows - 1) + problem.spacing.lines)
   least_total-some some =
       let least = sizes problem Rows demands ends h in
       let count = rises-length (λ k. get_or ends k 0) problem.rows in
       record {
         attained = (least, sizes-give problem Rows demands ends h, total-is some);
         never_less = λ other give.
-            let less = total-le (row_gap_of problem.style) (edge_of problem.style) least other (count ∙ sym give.count)
+            let less = total-le problem.spacing.row_gap problem.spacing.lines least other (count ∙ sym give.count)
             ((sizes-least problem Rows demands ends h).earliest other give (length least) (omega arith)) in
             omega (arith, less, total-is some);
       }

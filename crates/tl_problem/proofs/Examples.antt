@@ -1,4 +1,5 @@
 -- The definitions, run on cases counted by hand.
+use Rattle.tl_base.specs.Style.{spacing_of}
 use Rattle.std.proofs.Common.{◌≡◌, ℕ, ◌+◌, ◌-◌, ◌^◌, ◌≤◌, List, [], ◌∷◌, map, refl, arith}
 use Rattle.std.specs.List.{range_with_len}
 use Rattle.std.proofs.lemmas.List.Elements.{All-from_recursion}
@@ -27,11 +28,11 @@ whole_width : total 2 0 (2 ∷ 1 ∷ []) ≡ 5
 whole_width = refl
 
 -- with lines around: a gap of one column, and one at each edge
-framed_width : total 1 1 (2 ∷ 1 ∷ []) ≡ 6
+framed_width : total 1 2 (2 ∷ 1 ∷ []) ≡ 6
 framed_width = refl
 
 -- no column or row takes no room, not even its edges
-no_height : total 1 1 [] ≡ 0
+no_height : total 1 2 [] ≡ 0
 no_height = refl
 
 -- ---- a problem of two columns: a cell over both, of the words `aaaa bbbb cc`, and below it `x` and `yy`, on a page of
@@ -55,7 +56,7 @@ abbrev pub problem : ProblemModel
 problem = record {
   cols = 2;
   rows = 2;
-  style = Plain;
+  spacing = spacing_of Plain;
   width = 9;
   cells =
       wide ∷ cell 0 1 1 2 (step 1 1 ∷ []) ∷ cell 1 2 1 2 (step 2 1 ∷ []) ∷ [];
@@ -84,7 +85,7 @@ abbrev many : ProblemModel
 many = record {
   cols = 32;
   rows = 1;
-  style = Plain;
+  spacing = spacing_of Plain;
   width = 190;
   cells =
       map (λ column. cell column (column + 1) 0 1 (step 1 4 ∷ step 2 3 ∷ step 3 2 ∷ step 4 1 ∷ [])) (range_with_len 0 32);

@@ -9,7 +9,6 @@ use Rattle.std.proofs.lemmas.Bool.{cases_eq, cases_lt}
 use Rattle.std.proofs.lemmas.List.{get_or_default, get_or_push, get_or_append_left, get_or-set_same, get_or-set_other}
 use Rattle.std.proofs.lemmas.List.Sums.{sum_by-cons, sum_by-le}
 use Rattle.tl_base.specs.declared.limits.TheConstants.{MAX_COLUMNS, MAX_HEIGHT, MAX_PAGE_WIDTH, MAX_ROWS}
-use Rattle.tl_base.specs.Style.{gap_of, edge_of}
 use Rattle.tl_base.specs.declared.steps.Config.{Config}
 use Rattle.tl_base.specs.Steps.{AreSteps, first_width, height_at, IsLowAt, first_height}
 use Rattle.tl_problem.specs.declared.axis.Axis.TheVariants.{Columns, Rows}
@@ -177,10 +176,10 @@ module _ (problem : ProblemModel) (sound : IsSound problem) where
 
   -- the least widths that give each cell its least width are within the page
   pub page-give : (demands widths : List ℕ) → NeedLeast problem demands →
-      AreLeast (gap_of problem.style) (GiveDemands problem Columns demands) widths → WithinPage problem widths
+      AreLeast problem.spacing.gap (GiveDemands problem Columns demands) widths → WithinPage problem widths
   page-give demands widths need least =
       let fits = sound.fits in
-      let less = least-total (gap_of problem.style) (edge_of problem.style) (GiveDemands problem Columns demands)
+      let less = least-total problem.spacing.gap problem.spacing.edges (GiveDemands problem Columns demands)
       widths fits.0 least
       (give-page demands fits.0 need fits.1) (least.kind.count ∙ sym fits.1.columns) in
       record {
@@ -191,8 +190,8 @@ module _ (problem : ProblemModel) (sound : IsSound problem) where
       }
 
   pub page-least : (demands widths : List ℕ) → NeedLeast problem demands →
-      AreLeast (gap_of problem.style) (GiveDemands problem Columns demands) widths →
-      AreLeast (gap_of problem.style) (WithinPage problem) widths
+      AreLeast problem.spacing.gap (GiveDemands problem Columns demands) widths →
+      AreLeast problem.spacing.gap (WithinPage problem) widths
   page-least demands widths need least = record {
     kind = page-give demands widths need least;
     earliest = λ other page place within. least.earliest other (give-page demands other need page) place within;
@@ -214,7 +213,7 @@ module _ (problem : ProblemModel) (sound : IsSound problem) where
   }
 
   pub opening-tight : (demands : List ℕ) (opening : Placed) → NeedLeast problem demands →
-      AreLeast (gap_of problem.style) (GiveDemands problem Columns demands) opening.widths → IsPlacement problem opening →
+      AreLeast problem.spacing.gap (GiveDemands problem Columns demands) opening.widths → IsPlacement problem opening →
       IsTight problem opening
   opening-tight demands opening need least placement = record {
     columns = record {
@@ -227,10 +226,10 @@ module _ (problem : ProblemModel) (sound : IsSound problem) where
 
   -- and so are those of a tight placement
   pub page-keep : (widths tight : List ℕ) → WithinPage problem widths →
-      AreLeast (gap_of problem.style) (KeepHigh problem widths) tight →
+      AreLeast problem.spacing.gap (KeepHigh problem widths) tight →
       WithinPage problem tight
   page-keep widths tight page least =
-      let less = least-total (gap_of problem.style) (edge_of problem.style) (KeepHigh problem widths) tight widths least
+      let less = least-total problem.spacing.gap problem.spacing.edges (KeepHigh problem widths) tight widths least
       (KeepHigh-itself problem widths page.columns) (least.kind.columns ∙ sym page.columns) in
       record {
         columns = least.kind.columns;
@@ -311,7 +310,7 @@ pub sum-page : (problem : ProblemModel) → IsSound problem → (widths : List �
     sum widths ≤ MAX_PAGE_WIDTH
 sum-page problem sound widths page = omega (
   arith,
-  sum-total (gap_of problem.style) (edge_of problem.style) widths,
+  sum-total problem.spacing.gap problem.spacing.edges widths,
   page.page,
   sound.narrow,
 )

@@ -6,7 +6,6 @@ use Rattle.std.specs.Option.{IsSomeAnd}
 use Rattle.std.proofs.lemmas.Bool.{cases_lt}
 use Rattle.std.proofs.lemmas.List.{get_or_default}
 use Rattle.std.proofs.lemmas.List.Elements.{Contains-get_or}
-use Rattle.tl_base.specs.Style.{gap_of, row_gap_of, edge_of}
 use Rattle.tl_base.specs.declared.steps.Config.{Config}
 use Rattle.tl_base.specs.Steps.{height_at, IsLowAt}
 use Rattle.tl_problem.specs.declared.cell.Cell.{Cell}
@@ -34,17 +33,17 @@ IsLowAt-decides steps h w = decides (height_at steps w) where
 
 -- a set that has widths, none of which give the span more than some room, cannot be without a greatest room
 module _ (problem : ProblemModel) (Among : List ℕ → Type 0) (left right most : ℕ) (limit : (widths : List ℕ) → Among widths →
-    room (gap_of problem.style) widths left right ≤ most)
+    room problem.spacing.gap widths left right ≤ most)
     (none : (w : ℕ) → IsGreatestRoom problem Among left right w → ⊥) where
-  nearer : (n : ℕ) (widths : List ℕ) → Among widths → most ≤ room (gap_of problem.style) widths left right + n → ⊥
-  nearer zero widths among close = none (room (gap_of problem.style) widths left right) (record {
+  nearer : (n : ℕ) (widths : List ℕ) → Among widths → most ≤ room problem.spacing.gap widths left right + n → ⊥
+  nearer zero widths among close = none (room problem.spacing.gap widths left right) (record {
     attained = (widths, among, refl);
     never_more = λ other also. let below = limit other also in omega (arith, below, close);
   })
-  nearer (suc n) widths among close = none (room (gap_of problem.style) widths left right) (record {
+  nearer (suc n) widths among close = none (room problem.spacing.gap widths left right) (record {
     attained = (widths, among, refl);
     never_more = λ other also.
-        elim (cases_lt (room (gap_of problem.style) widths left right) (room (gap_of problem.style) other left right)) [
+        elim (cases_lt (room problem.spacing.gap widths left right) (room problem.spacing.gap other left right)) [
           | inl more ↦ absurd (nearer n other also (omega (arith, close, more)))
           | inr less ↦ less
         ];
@@ -80,7 +79,7 @@ module _ (problem : ProblemModel) (sound : IsSound problem) (zone : List Range) 
         let class = (range_at zone s).last in
         let single : (range_at zone s).first ≡ (range_at zone s).last = one s (range 0 0) there in
         let same = ap (λ columns. has_span columns cell) number.2 ∙ has_span-from (span cell.left cell.right) cell refl refl in
-        let width_is = λ (ws : List ℕ). ap (λ columns. room (gap_of problem.style) ws columns.left columns.right) number.2 in
+        let width_is = λ (ws : List ℕ). ap (λ columns. room problem.spacing.gap ws columns.left columns.right) number.2 in
         let here = inside.ranges s there in
         let from = ap (first_in_class problem s) single in
         elim (IsLowAt-decides cell.high h v) [
@@ -102,14 +101,14 @@ module _ (problem : ProblemModel) (sound : IsSound problem) (zone : List Range) 
         ]
 
   pub one_class-height : (widths heights : List ℕ) (bound : ℕ) → InZone problem zone widths →
-      AreLeast (row_gap_of problem.style) (GiveHigh problem widths) heights →
+      AreLeast problem.spacing.row_gap (GiveHigh problem widths) heights →
       IsBound problem (InZone problem zone) bound → total_height problem heights ≡ bound
   one_class-height widths heights bound inside least bounds =
       let below = bound-below_layout problem sound (InZone problem zone) bound widths heights bounds inside
       (record { page = inside.page; enough = low-from_high problem sound widths heights least.kind }) in
       let rows = bounds.least.attained in
       let enough = high-from_greatest widths rows.0 inside rows.1 in
-      let above = least-total (row_gap_of problem.style) (edge_of problem.style) (GiveHigh problem widths)
+      let above = least-total problem.spacing.row_gap problem.spacing.lines (GiveHigh problem widths)
       heights rows.0 least enough
       (least.kind.rows ∙ sym rows.1.rows) in
       omega (arith, below, above, rows.2)

@@ -1,6 +1,6 @@
 -- Rectangles on a grid that share no slot: their areas together are at most the area of the grid. A slot is as wide as
 -- the places of its column's two sides are apart, and as high as those of its row's.
-use Rattle.std.proofs.Common.{◌≡◌, ℕ, ◌+◌, ◌-◌, ◌*◌, ◌<◌, ◌≤◌, zero, suc, cond, ◌&&◌, nat_le, nat_lt, List, [], ◌∷◌, ◌⊎◌, inl}
+use Rattle.std.proofs.Common.{◌≡◌, ℕ, ◌+◌, ◌-◌, ◌*◌, ◌<◌, ◌≤◌, zero, suc, List, [], ◌∷◌, ◌⊎◌, inl}
 use Rattle.std.proofs.Common.{inr, refl, ap, ◌∙◌, arith}
 use Rattle.std.specs.List.{All, AllPairs, sum_by}
 use Rattle.std.proofs.lemmas.Bool.{cases_lt}

@@ -1,7 +1,6 @@
 -- Bounds of sets of widths that have the same widths, and of a set within another.
 use Rattle.std.proofs.Common.{ℕ, ◌≤◌, List, [], ◌∷◌, inl, inr, get_or, Option, Some, None, MatchOption, arith}
 use Rattle.std.specs.List.{AllZip}
-use Rattle.tl_base.specs.Style.{gap_of}
 use Rattle.tl_problem.specs.declared.cell.Cell.{Cell}
 use Rattle.tl_problem.specs.declared.placed.Placed.{Placed}
 use Rattle.tl_problem.specs.Problem.{ProblemModel, cell_height}
@@ -37,7 +36,7 @@ module _ (problem : ProblemModel) (A B : List ℕ → Type 0) (there : (widths :
 
   pub placement-same : (placed : Placed) → IsPlacementIn problem A placed → IsPlacementIn problem B placed
   placement-same placed is = record {
-    columns = least-same (gap_of problem.style) placed.widths is.columns;
+    columns = least-same problem.spacing.gap placed.widths is.columns;
     placement =
         is.placement;
   }

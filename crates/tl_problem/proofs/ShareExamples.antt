@@ -6,7 +6,8 @@
 -- Each upper cell alone may have 10 columns, so the chain is one line and one more. But both cannot have them: together they
 -- need three lines at least, and with the lower ones five. With a weight of 1 for each cell each row bears 2, and five lines
 -- in two columns are three.
-use Rattle.std.proofs.Common.{◌≡◌, ℕ, ◌+◌, ◌*◌, ◌<◌, ◌≤◌, zero, suc, List, [], ◌∷◌, length, get_or, Some, refl, ap, subst, sym}
+use Rattle.tl_base.specs.Style.{spacing_of}
+use Rattle.std.proofs.Common.{◌≡◌, ℕ, ◌+◌, ◌*◌, ◌<◌, ◌≤◌, zero, suc, List, [], ◌∷◌, length, get_or, refl, ap}
 use Rattle.std.proofs.Common.{inl, inr, unwrap_or, arith}
 use Rattle.std.proofs.lemmas.Bool.{cases_lt}
 use Rattle.std.proofs.lemmas.List.Elements.{All-from_recursion}
@@ -14,7 +15,6 @@ use Rattle.tl_base.specs.declared.style.Style.TheVariants.{Plain}
 use Rattle.tl_base.specs.declared.steps.Config.{Config}
 use Rattle.tl_base.specs.Steps.{first_width, height_at}
 use Rattle.tl_base.specs.Sizes.{position, room, total}
-use Rattle.tl_problem.specs.declared.cell.Cell.{Cell}
 use Rattle.tl_problem.specs.declared.weighting.Weighting.{Weighting}
 use Rattle.tl_problem.specs.Problem.{ProblemModel, cell_width}
 use Rattle.tl_problem.specs.Layouts.{WithinPage}
@@ -34,7 +34,7 @@ abbrev shared : ProblemModel
 shared = record {
   cols = 2;
   rows = 2;
-  style = Plain;
+  spacing = spacing_of Plain;
   width = 21;
   cells = cell 0 1 0 1 long ∷ cell 1 2 0 1 long ∷ cell 0 1 1 2 short ∷ cell 1 2 1 2 short ∷ [];
 }

@@ -1,9 +1,7 @@
 -- No layout by `low` is lower than the shared bound of a set that has its widths, and a set within another has no lower one.
-use Rattle.std.proofs.Common.{◌≡◌, refl, ℕ, ◌+◌, ◌-◌, ◌*◌, ◌<◌, ◌≤◌, suc, List, Some, inl, inr, length, get_or, ap, subst, sym, unwrap_or, arith}
+use Rattle.std.proofs.Common.{◌≡◌, ℕ, ◌+◌, ◌*◌, ◌<◌, ◌≤◌, List, inl, inr, length, get_or, ap, unwrap_or, arith}
 use Rattle.std.specs.List.{sum_by, range_with_len}
 use Rattle.std.proofs.lemmas.Bool.{cases_lt}
-use Rattle.tl_base.specs.Style.{gap_of, row_gap_of, edge_of}
-use Rattle.tl_base.specs.Steps.{height_at}
 use Rattle.tl_base.specs.Sizes.{position, room}
 use Rattle.tl_base.proofs.SizeLaws.{position-mono, position-next, room-position, total-position}
 use Rattle.tl_problem.specs.declared.weighting.Weighting.{Weighting}
@@ -11,9 +9,8 @@ use Rattle.tl_problem.specs.Problem.{ProblemModel, total_height, cell_width, cel
 use Rattle.tl_problem.specs.Cells.{cell_at, no_cell}
 use Rattle.tl_problem.specs.Layouts.{IsLayoutByLow}
 use Rattle.tl_problem.specs.Sound.{IsSound}
-use Rattle.tl_problem.specs.Spans.{spans_of}
-use Rattle.tl_problem.specs.Shares.{sum_over, weight_on, IsWeighting, IsBetween, AreLoose, IsLeastLoad, HoldShares, IsShareBound, lines_at}
-use Rattle.tl_problem.specs.Shares.{need, paid, given, load, inside}
+use Rattle.tl_problem.specs.Shares.{weight_on, IsWeighting, IsBetween, AreLoose, IsShareBound, lines_at}
+use Rattle.tl_problem.specs.Shares.{need, inside}
 use Rattle.tl_problem.proofs.Heights.{height-from_low}
 use Rattle.tl_problem.proofs.Rectangles.{amount, late, weighted}
 use Rattle.tl_problem.proofs.SharedSums.{sum_over-le, sum_over-list}
@@ -28,15 +25,15 @@ module _ (problem : ProblemModel) (sound : IsSound problem) (weighting : Weighti
     (layout : IsLayoutByLow problem widths heights) where
   -- where rows begin under the layout
   y_at : ℕ → ℕ
-  y_at n = position (row_gap_of problem.style) heights n
+  y_at n = position problem.spacing.row_gap heights n
 
   y_rising : (n : ℕ) → y_at n ≤ y_at (n + 1)
   unfolding y_at
-  y_rising n = position-mono (row_gap_of problem.style) heights n (n + 1) (omega arith)
+  y_rising n = position-mono problem.spacing.row_gap heights n (n + 1) (omega arith)
 
   -- the rooms that the layout gives
   abbrev rooms : ℕ → ℕ → ℕ
-  rooms left right = room (gap_of problem.style) widths left right
+  rooms left right = room problem.spacing.gap widths left right
 
   loose : AreLoose problem Among widths rooms
   loose = record {
@@ -45,7 +42,7 @@ module _ (problem : ProblemModel) (sound : IsSound problem) (weighting : Weighti
       no_more = (widths, among, omega arith);
       no_less = (widths, among, omega arith);
     };
-    single = λ column within. room-one (gap_of problem.style) widths column (omega (arith, layout.page.columns, within));
+    single = λ column within. room-one problem.spacing.gap widths column (omega (arith, layout.page.columns, within));
     end = (widths, among, omega arith);
   }
 
@@ -61,7 +58,7 @@ module _ (problem : ProblemModel) (sound : IsSound problem) (weighting : Weighti
       (layout.enough.cells k no_cell within) in
       let is_found = ap (λ o. unwrap_or o 0) found.1 in
       let down = late y_at y_rising cell.top cell.bottom problem.rows (omega (arith, whole.rows.0)) whole.rows.1 in
-      let high = room-position (row_gap_of problem.style) heights cell.top cell.bottom whole.rows.0 in
+      let high = room-position problem.spacing.row_gap heights cell.top cell.bottom whole.rows.0 in
       omega (arith, is_found, down, high, found.2)
 
   need-below : need problem weighting.weights rooms ≤ weighting.divisor * y_at problem.rows
@@ -108,8 +105,8 @@ module _ (problem : ProblemModel) (sound : IsSound problem) (weighting : Weighti
             let least = hold.least.never_less widths rooms loose in
             let turned = turn weighting.divisor (y_at problem.rows) in
             let lines = hold.rounded.least (y_at problem.rows) (omega (arith, least, need-below, turned)) in
-            let whole = total-position (row_gap_of problem.style) (edge_of problem.style) heights rows in
-            let all = ap (position (row_gap_of problem.style) heights) layout.enough.rows in
+            let whole = total-position problem.spacing.row_gap problem.spacing.lines heights rows in
+            let all = ap (position problem.spacing.row_gap heights) layout.enough.rows in
             omega (arith, held.2, lines, whole, all)
       ] where
         turn : (a b : ℕ) → a * b ≡ b * a

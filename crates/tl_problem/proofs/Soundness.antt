@@ -7,8 +7,7 @@ use Rattle.std.specs.Option.{IsSomeAnd}
 use Rattle.std.proofs.lemmas.Bool.{cases_eq, cases_lt}
 use Rattle.std.proofs.lemmas.List.{get_or-set_same, get_or-set_other, length-set, get_or-replicate, get_or_past, length-replicate}
 use Rattle.std.proofs.lemmas.Nat.{div-mul-add, mod-mul-add}
-use Rattle.tl_base.specs.Style.{gap_of, edge_of}
-use Rattle.tl_base.specs.declared.style.Style.{Style}
+use Rattle.tl_base.specs.declared.spacing.Spacing.{Spacing}
 use Rattle.tl_base.specs.declared.steps.Config.{Config}
 use Rattle.tl_base.specs.Steps.{AreSteps, first_width, height_at, IsLowAt}
 use Rattle.tl_problem.specs.declared.cell.Cell.{Cell}
@@ -263,12 +262,12 @@ module _ (side gap : ℕ) (cells : List Cell) (inside : All (IsOnPlaces side) ce
 
 -- ---- widths within the page, by the least places
 
-module _ (cols : ℕ) (style : Style) (width : ℕ) (cells : List Cell) (inside : All (IsInGrid cols) cells) where
+module _ (cols : ℕ) (spacing : Spacing) (width : ℕ) (cells : List Cell) (inside : All (IsInGrid cols) cells) where
   abbrev page : ProblemModel
-  page = record { cols = cols; rows = 0; style = style; width = width; cells = cells }
+  page = record { cols = cols; rows = 0; spacing = spacing; width = width; cells = cells }
 
   abbrev gap : ℕ
-  gap = gap_of style
+  gap = spacing.gap
 
   page-gives : (widths : List ℕ) → WithinPage page widths → GiveLeast gap cells widths
   page-gives widths within k cell =
@@ -276,20 +275,20 @@ module _ (cols : ℕ) (style : Style) (width : ℕ) (cells : List Cell) (inside 
       omega (arith, within.cells k no_cell cell, room-position gap widths (cell_at cells k).left (cell_at cells k).right ahead)
 
   -- columns that end no later than the page allows
-  page-ends : (widths : List ℕ) → WithinPage page widths → 0 < cols → position gap widths cols + 2 * edge_of style ≤ width + gap
+  page-ends : (widths : List ℕ) → WithinPage page widths → 0 < cols → position gap widths cols + spacing.edges ≤ width + gap
   page-ends widths within some =
-      let ends = total-position gap (edge_of style) widths (omega (arith, within.columns)) in
+      let ends = total-position gap spacing.edges widths (omega (arith, within.columns)) in
       let at = ap (position gap widths) within.columns in
       omega (arith, ends, at, within.page)
 
   pub not-past : (column place : ℕ) (places : List ℕ) → column < cols → AreLeastPlaces gap cells column places →
-      IsNextPlace gap cells (column + 1) places column place → width + gap < place → FitsPageWidth cols style width cells → ⊥
+      IsNextPlace gap cells (column + 1) places column place → width + gap < place → FitsPageWidth cols spacing width cells → ⊥
   not-past column place places below are next past fits =
       let least = next-least cols gap cells inside column place places are next fits.0 (page-gives fits.0 fits.1) in
       let later = position-mono gap fits.0 (column + 1) cols (omega arith) in
       omega (arith, least, later, page-ends fits.0 fits.1 (omega arith), past)
 
-  pub fits-none : cols ≡ 0 → FitsPageWidth cols style width cells
+  pub fits-none : cols ≡ 0 → FitsPageWidth cols spacing width cells
   fits-none empty = (
     [],
     record {
@@ -301,7 +300,7 @@ module _ (cols : ℕ) (style : Style) (width : ℕ) (cells : List Cell) (inside 
   )
 
   module _ (places : List ℕ) (are : AreLeastPlaces gap cells cols places) (some : 0 < cols) where
-    pub fits-ends : FitsPageWidth cols style width cells → get_or places cols 0 + 2 * edge_of style ≤ width + gap
+    pub fits-ends : FitsPageWidth cols spacing width cells → get_or places cols 0 + spacing.edges ≤ width + gap
     fits-ends fits = omega (arith, are.least fits.0 (page-gives fits.0 fits.1) cols (omega arith), page-ends fits.0 fits.1 some)
 
     -- the places without the gaps before them
@@ -330,13 +329,13 @@ module _ (cols : ℕ) (style : Style) (width : ℕ) (cells : List Cell) (inside 
     at-place k up =
         omega (arith, rises-sum bare cols rising k up, enough k up, are.first)
 
-    pub ends-fit : get_or places cols 0 + 2 * edge_of style ≤ width + gap → FitsPageWidth cols style width cells
+    pub ends-fit : get_or places cols 0 + spacing.edges ≤ width + gap → FitsPageWidth cols spacing width cells
     ends-fit ends = (
       widths,
       record {
         columns = rises-length bare cols;
         page =
-            let all = total-position gap (edge_of style) widths (omega (arith, rises-length bare cols)) in
+            let all = total-position gap spacing.edges widths (omega (arith, rises-length bare cols)) in
             let at = ap (position gap widths) (rises-length bare cols) in
             omega (arith, all, at, at-place cols (omega arith), ends);
         cells = All-from_numbers (λ cell. first_width cell.low ≤ cell_width page widths cell) cells (λ k within.

@@ -7,7 +7,6 @@ use Rattle.std.proofs.lemmas.Bool.{cases_lt, eqb-true, eq-eqb, and_parts, and_fr
 use Rattle.std.proofs.lemmas.List.{get_or_default, get_or_past}
 use Rattle.std.proofs.lemmas.List.Elements.{All-contains, Contains-get_or, Contains-append_left, Contains-append_right}
 use Rattle.std.proofs.lemmas.List.Folds.{Any-from_list_any, list_any_at}
-use Rattle.tl_base.specs.Style.{gap_of, edge_of}
 use Rattle.tl_base.specs.declared.steps.Config.{Config}
 use Rattle.tl_base.specs.Steps.{first_width, height_at}
 use Rattle.tl_base.proofs.Members.{All-from_Contains, Contains-first, Contains-later, Contains-cases, Contains-filter}
@@ -129,11 +128,11 @@ greatest-least (m ∷ ns) most each =
 -- the room of a span is at most that of the page
 pub room-in_page : (problem : ProblemModel) (widths : List ℕ) → WithinPage problem widths → (left right : ℕ) → left < right →
     right ≤ problem.cols →
-    room (gap_of problem.style) widths left right ≤ page_room problem
+    room problem.spacing.gap widths left right ≤ page_room problem
 room-in_page problem widths is left right ahead within =
-    let whole = total-position (gap_of problem.style) (edge_of problem.style) widths (omega (arith, is.columns)) in
-    let span = room-position (gap_of problem.style) widths left right ahead in
-    let before = position-mono (gap_of problem.style) widths right (length widths) (omega (arith, is.columns)) in
+    let whole = total-position problem.spacing.gap problem.spacing.edges widths (omega (arith, is.columns)) in
+    let span = room-position problem.spacing.gap widths left right ahead in
+    let before = position-mono problem.spacing.gap widths right (length widths) (omega (arith, is.columns)) in
     omega (arith, whole, span, before, is.page)
 
 module _ (problem : ProblemModel) (columns : Span) where
@@ -147,16 +146,16 @@ module _ (problem : ProblemModel) (columns : Span) where
 
   -- widths within the page give the span at least the width of its first class
   pub least_width-within : (widths : List ℕ) → WithinPage problem widths →
-      least_width problem columns ≤ room (gap_of problem.style) widths columns.left columns.right
+      least_width problem columns ≤ room problem.spacing.gap widths columns.left columns.right
   least_width-within widths is =
       greatest-least (map (λ c. first_width c.low) (cells_of problem columns))
-      (room (gap_of problem.style) widths columns.left columns.right) (λ n has.
+      (room problem.spacing.gap widths columns.left columns.right) (λ n has.
       let found = map-Contains (λ c. first_width c.low) (cells_of problem columns) n has in
       let kept = filter-Contains (has_span columns) problem.cells found.0 found.1 in
       let parts = has_span-parts columns found.0 kept.1 in
       let wide = All-contains (λ c. first_width c.low ≤ cell_width problem widths c) problem.cells found.0 is.cells kept.0 in
-      let left = ap (λ l. room (gap_of problem.style) widths l found.0.right) parts.0 in
-      let right = ap (room (gap_of problem.style) widths columns.left) parts.1 in
+      let left = ap (λ l. room problem.spacing.gap widths l found.0.right) parts.0 in
+      let right = ap (room problem.spacing.gap widths columns.left) parts.1 in
       omega (arith, wide, found.2, left, right))
 
   pub classes-rising : AllPairs (λ a b. a < b) (classes_of problem columns)

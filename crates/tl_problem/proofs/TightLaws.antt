@@ -1,6 +1,5 @@
 -- Making a placement tight raises neither its width nor its height, and doing so again changes nothing.
 use Rattle.std.proofs.Common.{◌≡◌, ℕ, ◌≤◌, List, length, get_or, sym, ap, ◌∙◌, subst, arith}
-use Rattle.tl_base.specs.Style.{gap_of, row_gap_of, edge_of}
 use Rattle.tl_problem.specs.declared.placed.Placed.{Placed}
 use Rattle.tl_base.specs.Sizes.{total}
 use Rattle.tl_problem.specs.Problem.{ProblemModel, total_width, total_height, cell_width, cell_height}
@@ -64,7 +63,7 @@ module _ (problem : ProblemModel) where
   module _ (placed tight : Placed) (is : IsPlacement problem placed) (made : IsTightFrom problem placed.widths tight) where
     pub tight-no_wider : tight.width ≤ placed.width
     tight-no_wider =
-        let less = least-total (gap_of problem.style) (edge_of problem.style) (KeepHigh problem placed.widths)
+        let less = least-total problem.spacing.gap problem.spacing.edges (KeepHigh problem placed.widths)
         tight.widths placed.widths
         made.columns (KeepHigh-itself placed.widths is.page.columns)
         (made.placement.page.columns ∙ sym is.page.columns) in
@@ -73,7 +72,7 @@ module _ (problem : ProblemModel) where
     pub tight-no_higher : tight.height ≤ placed.height
     tight-no_higher =
         let enough = GiveHigh-kept placed.widths tight.widths placed.heights made.columns.kind is.rows.kind in
-        let less = least-total (row_gap_of problem.style) (edge_of problem.style) (GiveHigh problem tight.widths)
+        let less = least-total problem.spacing.row_gap problem.spacing.lines (GiveHigh problem tight.widths)
         tight.heights placed.heights
         made.placement.rows enough
         (made.placement.rows.kind.rows ∙ sym is.rows.kind.rows) in
@@ -99,10 +98,10 @@ module _ (problem : ProblemModel) where
   pub placement-unique : (first second : Placed) → first.widths ≡ second.widths → IsPlacement problem first →
       IsPlacement problem second → first ≡ second
   placement-unique first second same one other =
-      let rows : first.heights ≡ second.heights = least-unique (row_gap_of problem.style) (GiveHigh problem second.widths)
+      let rows : first.heights ≡ second.heights = least-unique problem.spacing.row_gap (GiveHigh problem second.widths)
       first.heights second.heights
       (one.rows.kind.rows ∙ sym other.rows.kind.rows) (subst
-      (λ widths. AreLeast (row_gap_of problem.style) (GiveHigh problem widths) first.heights)
+      (λ widths. AreLeast problem.spacing.row_gap (GiveHigh problem widths) first.heights)
       same one.rows) other.rows in
       let wide : first.width ≡ second.width = one.width ∙ ap (total_width problem) same ∙ sym other.width in
       let high : first.height ≡ second.height = one.height ∙ ap (total_height problem) rows ∙ sym other.height in
@@ -114,6 +113,6 @@ module _ (problem : ProblemModel) where
       IsTightFrom problem widths second → first ≡ second
   tight-unique widths first second one other =
       placement-unique first second
-      (least-unique (gap_of problem.style) (KeepHigh problem widths) first.widths second.widths
+      (least-unique problem.spacing.gap (KeepHigh problem widths) first.widths second.widths
       (one.placement.page.columns ∙ sym other.placement.page.columns) one.columns other.columns)
       one.placement other.placement

@@ -7,7 +7,6 @@ use Rattle.std.proofs.lemmas.Int.{ints}
 use Rattle.std.proofs.lemmas.Bool.{cases_lt}
 use Rattle.std.proofs.lemmas.List.{length-append, take_all, take-append-le}
 use Rattle.std.proofs.lemmas.List.Sums.{sum_by-append}
-use Rattle.tl_base.specs.Style.{gap_of}
 use Rattle.tl_diff.specs.Bounds.{Bounds, Satisfies, IsSatisfiable, IsGreatest}
 use Rattle.tl_base.specs.Sizes.{position, room}
 use Rattle.tl_problem.specs.Problem.{ProblemModel}
@@ -66,53 +65,53 @@ module _ (x : ℕ → ℤ) (gap : ℕ) where
 
 module _ (problem : ProblemModel) (bounds : Bounds) (keeps : KeepsPage problem bounds) where
   -- an assignment leaves widths
-  pub left-from : (x : ℕ → ℤ) → Satisfies bounds x → AreAllowed problem bounds (widths_of x (gap_of problem.style) problem.cols)
+  pub left-from : (x : ℕ → ℤ) → Satisfies bounds x → AreAllowed problem bounds (widths_of x problem.spacing.gap problem.cols)
   left-from x meets = record {
-    columns = widths_of-length x (gap_of problem.style) problem.cols;
+    columns = widths_of-length x problem.spacing.gap problem.cols;
     satisfies = λ a b first second c is.
-        let one = widths_of-position x (gap_of problem.style) problem.cols (keeps.gaps x meets) a
+        let one = widths_of-position x problem.spacing.gap problem.cols (keeps.gaps x meets) a
         (omega (arith, keeps.variables)) in
-        let other = widths_of-position x (gap_of problem.style) problem.cols (keeps.gaps x meets) b
+        let other = widths_of-position x problem.spacing.gap problem.cols (keeps.gaps x meets) b
         (omega (arith, keeps.variables)) in
         omega (arith, ints, one, other, meets a b first second c is);
   }
 
   pub left-position : (x : ℕ → ℤ) → Satisfies bounds x → (k : ℕ) → k ≤ problem.cols →
-      pos (position (gap_of problem.style) (widths_of x (gap_of problem.style) problem.cols) k) ≡ x k -ℤ x 0
-  left-position x meets k up = widths_of-position x (gap_of problem.style) problem.cols (keeps.gaps x meets) k up
+      pos (position problem.spacing.gap (widths_of x problem.spacing.gap problem.cols) k) ≡ x k -ℤ x 0
+  left-position x meets k up = widths_of-position x problem.spacing.gap problem.cols (keeps.gaps x meets) k up
 
   -- some assignment satisfies the constraints where some widths are left
   pub left-some : IsSatisfiable bounds → (widths : List ℕ) × AreAllowed problem bounds widths
-  left-some some = (widths_of some.0 (gap_of problem.style) problem.cols, left-from some.0 some.1)
+  left-some some = (widths_of some.0 problem.spacing.gap problem.cols, left-from some.0 some.1)
 
   module _ (left right : ℕ) (ahead : left < right) (within : right ≤ problem.cols) where
     -- the room of a span by the assignment
     pub left-room : (x : ℕ → ℤ) → Satisfies bounds x →
-        pos (room (gap_of problem.style) (widths_of x (gap_of problem.style) problem.cols)
-        left right + gap_of problem.style) ≡ x right -ℤ x left
+        pos (room problem.spacing.gap (widths_of x problem.spacing.gap problem.cols)
+        left right + problem.spacing.gap) ≡ x right -ℤ x left
     left-room x meets =
-        let places = room-position (gap_of problem.style) (widths_of x (gap_of problem.style) problem.cols) left right ahead in
+        let places = room-position problem.spacing.gap (widths_of x problem.spacing.gap problem.cols) left right ahead in
         let one = left-position x meets left (omega arith) in
         let other = left-position x meets right within in
         omega (arith, ints, places, one, other)
 
     -- the tightest bound on two places is the greatest room of the span between, and a gap
     pub greatest-room : (most : ℤ) → IsGreatest bounds left right most →
-        (w : ℕ) × ((most ≡ pos (w + gap_of problem.style)) × IsGreatestRoom problem (AreAllowed problem bounds) left right w)
+        (w : ℕ) × ((most ≡ pos (w + problem.spacing.gap)) × IsGreatestRoom problem (AreAllowed problem bounds) left right w)
     greatest-room most is =
         let x = is.reached.0 in
-        let widths = widths_of x (gap_of problem.style) problem.cols in
+        let widths = widths_of x problem.spacing.gap problem.cols in
         let at = left-room x is.reached.1.0 in
-        let same : most ≡ pos (room (gap_of problem.style) widths left right + gap_of problem.style) =
+        let same : most ≡ pos (room problem.spacing.gap widths left right + problem.spacing.gap) =
         omega (arith, ints, at, is.reached.1.1) in (
-          room (gap_of problem.style) widths left right,
+          room problem.spacing.gap widths left right,
           (
             same,
             record {
               attained = (widths, left-from x is.reached.1.0, refl);
               never_more = λ other kept.
                   let apart = is.implied (places problem other) kept.satisfies in
-                  let room_is = room-position (gap_of problem.style) other left right ahead in
+                  let room_is = room-position problem.spacing.gap other left right ahead in
                   omega (arith, ints, apart, room_is, same);
             },
           ),
@@ -120,21 +119,21 @@ module _ (problem : ProblemModel) (bounds : Bounds) (keeps : KeepsPage problem b
 
     -- the tightest bound the other way round is that of the least room
     pub least-room : (most : ℤ) → IsGreatest bounds right left most →
-        (w : ℕ) × ((most ≡ neg_ℤ (pos (w + gap_of problem.style))) × IsLeastRoom problem (AreAllowed problem bounds) left right w)
+        (w : ℕ) × ((most ≡ neg_ℤ (pos (w + problem.spacing.gap))) × IsLeastRoom problem (AreAllowed problem bounds) left right w)
     least-room most is =
         let x = is.reached.0 in
-        let widths = widths_of x (gap_of problem.style) problem.cols in
+        let widths = widths_of x problem.spacing.gap problem.cols in
         let at = left-room x is.reached.1.0 in
-        let same : most ≡ neg_ℤ (pos (room (gap_of problem.style) widths left right + gap_of problem.style)) =
+        let same : most ≡ neg_ℤ (pos (room problem.spacing.gap widths left right + problem.spacing.gap)) =
         omega (arith, ints, at, is.reached.1.1) in (
-          room (gap_of problem.style) widths left right,
+          room problem.spacing.gap widths left right,
           (
             same,
             record {
               attained = (widths, left-from x is.reached.1.0, refl);
               never_less = λ other kept.
                   let apart = is.implied (places problem other) kept.satisfies in
-                  let room_is = room-position (gap_of problem.style) other left right ahead in
+                  let room_is = room-position problem.spacing.gap other left right ahead in
                   omega (arith, ints, apart, room_is, same);
             },
           ),

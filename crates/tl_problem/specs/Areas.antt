@@ -1,7 +1,6 @@
 -- The area bound of a set of widths: the cells share no slot, so the lines of a page hold the sum of the least areas.
 use Rattle.std.specs.Prelude.{◌≡◌, ℕ, ◌+◌, ◌-◌, ◌*◌, ◌<◌, ◌≤◌, List, Some, sum}
 use Rattle.std.specs.List.{AllZip}
-use Rattle.tl_base.specs.Style.{gap_of, row_gap_of, edge_of}
 use Rattle.tl_base.specs.Steps.{height_at}
 use Rattle.tl_problem.specs.declared.cell.Cell.{Cell}
 use Rattle.tl_base.specs.Sizes.{position}
@@ -14,7 +13,7 @@ pub record IsBetweenRooms (problem : ProblemModel) (Among : List ℕ → Type 0)
 
 -- what the cell covers at width `w` where `low` needs `h` lines there, with a gap at its right and one below
 abbrev pub area : ProblemModel → ℕ → ℕ → ℕ
-area problem w h = (w + gap_of problem.style) * (h + row_gap_of problem.style)
+area problem w h = (w + problem.spacing.gap) * (h + problem.spacing.row_gap)
 
 -- the least area of a cell, over the widths between its least and its greatest room
 pub record IsLeastArea (problem : ProblemModel) (Among : List ℕ → Type 0) (cell : Cell) (least : ℕ) : Type 0 where
@@ -25,8 +24,8 @@ pub record IsLeastArea (problem : ProblemModel) (Among : List ℕ → Type 0) (c
 
 -- the greatest place at which the columns end, with a gap after the last
 pub record IsGreatestEnd (problem : ProblemModel) (Among : List ℕ → Type 0) (end : ℕ) : Type 0 where
-  pub attained : (widths : List ℕ) × Among widths × (position (gap_of problem.style) widths problem.cols ≡ end)
-  pub never_more : (widths : List ℕ) → Among widths → position (gap_of problem.style) widths problem.cols ≤ end
+  pub attained : (widths : List ℕ) × Among widths × (position problem.spacing.gap widths problem.cols ≡ end)
+  pub never_more : (widths : List ℕ) → Among widths → position problem.spacing.gap widths problem.cols ≤ end
 
 -- `quotient` is `n` divided by `divisor`, rounded up
 pub record IsRoundedUp (n divisor quotient : ℕ) : Type 0 where
@@ -47,4 +46,4 @@ pub record IsAreaBound (problem : ProblemModel) (Among : List ℕ → Type 0) (b
   pub some : (widths : List ℕ) × Among widths
   pub no_column : problem.cols ≡ 0 → bound ≡ 0
   pub columns : 0 < problem.cols → (lines : ℕ) × HoldAreas problem Among lines
-      × (bound ≡ 2 * edge_of problem.style + lines - row_gap_of problem.style)
+      × (bound ≡ problem.spacing.lines + lines - problem.spacing.row_gap)

@@ -2,7 +2,6 @@
 -- that the same words serve a zone and what a line of a log leaves.
 use Rattle.std.specs.Prelude.{◌≡◌, ℕ, ◌≤◌, List, length}
 use Rattle.std.specs.List.{All}
-use Rattle.tl_base.specs.Style.{gap_of, row_gap_of, edge_of}
 use Rattle.tl_base.specs.Steps.{IsLowAt}
 use Rattle.tl_base.specs.Sizes.{room, IsLeastTotal}
 use Rattle.tl_problem.specs.Problem.{ProblemModel, cell_height}
@@ -13,8 +12,8 @@ HasNoWidths Among = (widths : List ℕ) → Among widths → ⊥
 
 -- `w` is the greatest room that any of the widths give the span of columns
 pub record IsGreatestRoom (problem : ProblemModel) (Among : List ℕ → Type 0) (left right w : ℕ) : Type 0 where
-  pub attained : (widths : List ℕ) × Among widths × (room (gap_of problem.style) widths left right ≡ w)
-  pub never_more : (widths : List ℕ) → Among widths → room (gap_of problem.style) widths left right ≤ w
+  pub attained : (widths : List ℕ) × Among widths × (room problem.spacing.gap widths left right ≡ w)
+  pub never_more : (widths : List ℕ) → Among widths → room problem.spacing.gap widths left right ≤ w
 
 -- the heights, one for each row, give each cell its `low` at the greatest room of its span
 pub record GiveLow (problem : ProblemModel) (Among : List ℕ → Type 0) (heights : List ℕ) : Type 0 where
@@ -26,4 +25,4 @@ pub record GiveLow (problem : ProblemModel) (Among : List ℕ → Type 0) (heigh
 -- of its span
 pub record IsBound (problem : ProblemModel) (Among : List ℕ → Type 0) (bound : ℕ) : Type 0 where
   pub some : (widths : List ℕ) × Among widths
-  pub least : IsLeastTotal (row_gap_of problem.style) (edge_of problem.style) (GiveLow problem Among) bound
+  pub least : IsLeastTotal problem.spacing.row_gap problem.spacing.lines (GiveLow problem Among) bound

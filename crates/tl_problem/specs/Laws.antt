@@ -1,6 +1,5 @@
 -- Laws of the definitions, which searches and the checker rest on. Each is the contract of a function of `laws`.
 use Rattle.std.specs.Prelude.{◌≡◌, ℕ, ◌<◌, ◌≤◌, ◌⊎◌, ◌↔◌, List, length}
-use Rattle.tl_base.specs.Style.{row_gap_of}
 use Rattle.tl_problem.specs.declared.placed.Placed.{Placed}
 use Rattle.tl_problem.specs.declared.zone.Range.{Range}
 use Rattle.tl_problem.specs.Problem.{ProblemModel, total_height}
@@ -50,7 +49,7 @@ abbrev pub OneClassIsExact : Type 0
 OneClassIsExact = (problem : ProblemModel) → IsSound problem →
     (zone : List Range) → IsZone problem zone → HasOneClass zone → AgreeIn problem zone →
     (bound : ℕ) (widths heights : List ℕ) → IsBound problem (InZone problem zone) bound → InZone problem zone widths →
-    AreLeast (row_gap_of problem.style) (GiveHigh problem widths) heights → total_height problem heights ≡ bound
+    AreLeast problem.spacing.row_gap (GiveHigh problem widths) heights → total_height problem heights ≡ bound
 
 -- the whole is a zone with all widths within the page
 abbrev pub WholeHasAll : Type 0

@@ -3,7 +3,6 @@
 -- columns has a room of its own, for which it pays where that is more than its columns give it.
 use Rattle.std.specs.Prelude.{◌≡◌, ℕ, zero, suc, ◌+◌, ◌-◌, ◌*◌, ◌<◌, ◌≤◌, ◌&&◌, cond, nat_le, nat_lt, List, length}
 use Rattle.std.specs.Prelude.{get_or, unwrap_or}
-use Rattle.tl_base.specs.Style.{gap_of, row_gap_of, edge_of}
 use Rattle.tl_base.specs.Steps.{height_at}
 use Rattle.tl_base.specs.Sizes.{position, room}
 use Rattle.tl_problem.specs.declared.cell.Cell.{Cell}
@@ -46,8 +45,8 @@ pub record IsWeighting (problem : ProblemModel) (weighting : Weighting) : Type 0
 
 -- `w` lies between the least and the greatest room of the span of columns
 pub record IsBetween (problem : ProblemModel) (Among : List ℕ → Type 0) (left right w : ℕ) : Type 0 where
-  pub no_more : (widths : List ℕ) × Among widths × (room (gap_of problem.style) widths left right ≤ w)
-  pub no_less : (widths : List ℕ) × Among widths × (w ≤ room (gap_of problem.style) widths left right)
+  pub no_more : (widths : List ℕ) × Among widths × (room problem.spacing.gap widths left right ≤ w)
+  pub no_less : (widths : List ℕ) × Among widths × (w ≤ room problem.spacing.gap widths left right)
 
 -- widths of the columns, and rooms of spans, each of which some of the widths allow alone: the columns end no later than some
 -- of the widths do, and the room of one column is its width
@@ -56,11 +55,11 @@ pub record AreLoose (problem : ProblemModel) (Among : List ℕ → Type 0) (widt
   pub each : (left right : ℕ) → left < right → right ≤ problem.cols → IsBetween problem Among left right (rooms left right)
   pub single : (column : ℕ) → column < problem.cols → rooms column (column + 1) ≡ get_or widths column 0
   pub end : (other : List ℕ) × Among other
-      × (position (gap_of problem.style) widths problem.cols ≤ position (gap_of problem.style) other problem.cols)
+      × (position problem.spacing.gap widths problem.cols ≤ position problem.spacing.gap other problem.cols)
 
 -- what the cell needs by `low` in a room of `w` columns, with a gap below it
 abbrev pub lines_at : ProblemModel → Cell → ℕ → ℕ
-lines_at problem cell w = unwrap_or (height_at cell.low w) 0 + row_gap_of problem.style
+lines_at problem cell w = unwrap_or (height_at cell.low w) 0 + problem.spacing.row_gap
 
 -- what the cells need in these rooms, each times its weight
 abbrev pub need : ProblemModel → List ℕ → (ℕ → ℕ → ℕ) → ℕ
@@ -102,4 +101,4 @@ pub record IsShareBound (problem : ProblemModel) (weighting : Weighting) (Among 
   pub some : (widths : List ℕ) × Among widths
   pub no_column : problem.cols ≡ 0 → bound ≡ 0
   pub columns : 0 < problem.cols → (lines : ℕ) × HoldShares problem weighting Among lines
-      × (bound ≡ 2 * edge_of problem.style + lines - row_gap_of problem.style)
+      × (bound ≡ problem.spacing.lines + lines - problem.spacing.row_gap)

@@ -3,6 +3,7 @@
 use Rattle.std.specs.Prelude.{◌≡◌, ℕ, ◌+◌, ◌<◌, ◌≤◌, List, sum_by}
 use Rattle.std.specs.List.{All, AllPairs, Any}
 use Rattle.tl_base.specs.declared.limits.TheConstants.{MAX_COLUMNS, MAX_ROWS, MAX_PAGE_WIDTH, MAX_HEIGHT}
+use Rattle.tl_base.specs.Style.{IsSpacing}
 use Rattle.tl_base.specs.Steps.{AreSteps, first_width, IsLowAt, first_height}
 use Rattle.tl_problem.specs.declared.cell.Cell.{Cell}
 use Rattle.tl_problem.specs.Problem.{ProblemModel}
@@ -24,6 +25,7 @@ ShareSlot a b = ((a.left < b.right) × (b.left < a.right)) × ((a.top < b.bottom
 -- the rows are those of a table and one for its caption; where there is no cell, no column and no row has one that begins
 -- there, so there is none of either
 pub record IsSound (problem : ProblemModel) : Type 0 where
+  pub spaced : IsSpacing problem.spacing
   pub few_columns : problem.cols ≤ MAX_COLUMNS
   pub few_rows : problem.rows ≤ MAX_ROWS + 1
   pub narrow : problem.width ≤ MAX_PAGE_WIDTH

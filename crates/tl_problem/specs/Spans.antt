@@ -2,7 +2,6 @@
 -- another height, so that only the class matters for the heights.
 use Rattle.std.specs.Prelude.{ℕ, ◌+◌, ◌-◌, ◌*◌, ◌^◌, min, max, Bool, ◌==◌, ◌&&◌, List, [], ◌∷◌, ◌++◌, length, map, filter}
 use Rattle.std.specs.List.{list_any, flat_map, range_with_len}
-use Rattle.tl_base.specs.Style.{edge_of}
 use Rattle.tl_base.specs.Steps.{first_width}
 use Rattle.tl_problem.specs.declared.cell.Cell.{Cell}
 use Rattle.tl_problem.specs.declared.cell.Span.{Span}
@@ -39,7 +38,7 @@ least_width problem columns = greatest (map (λ cell. first_width cell.low) (cel
 
 -- the room that the page has for the columns
 abbrev pub page_room : ProblemModel → ℕ
-page_room problem = problem.width - 2 * edge_of problem.style
+page_room problem = problem.width - problem.spacing.edges
 
 -- whether `low` or `high` of a cell of the span has a step that begins at this width
 abbrev pub begins_step : ProblemModel → Span → ℕ → Bool

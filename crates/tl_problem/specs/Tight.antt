@@ -1,7 +1,6 @@
 -- Tight placements: the columns begin at the least places at which no cell needs more lines by `high` than it does now.
 use Rattle.std.specs.Prelude.{◌≡◌, ℕ, Some, List, length}
 use Rattle.std.specs.List.{All}
-use Rattle.tl_base.specs.Style.{gap_of}
 use Rattle.tl_base.specs.Steps.{height_at, IsLowAt}
 use Rattle.tl_problem.specs.declared.placed.Placed.{Placed}
 use Rattle.tl_problem.specs.Problem.{ProblemModel, cell_width}
@@ -16,7 +15,7 @@ pub record KeepHigh (problem : ProblemModel) (widths other : List ℕ) : Type 0 
 
 -- the placement made tight from these widths: the least positions that keep each cell's height, with the least heights
 pub record IsTightFrom (problem : ProblemModel) (widths : List ℕ) (placed : Placed) : Type 0 where
-  pub columns : AreLeast (gap_of problem.style) (KeepHigh problem widths) placed.widths
+  pub columns : AreLeast problem.spacing.gap (KeepHigh problem widths) placed.widths
   pub placement : IsPlacement problem placed
 
 -- a tight placement: one that is what tightening makes of it

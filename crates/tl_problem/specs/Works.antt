@@ -1,7 +1,6 @@
 -- What a `Work` leaves: the widths whose columns begin at places that satisfy the constraints of its matrix. Variable k of
 -- the matrix is the place where column k begins, and the last one the place where the columns end, a gap after the last.
 use Rattle.std.specs.Prelude.{◌≡◌, ℕ, zero, suc, ◌+◌, ◌<◌, ℤ, pos, negsuc, ◌+ℤ◌, ◌-ℤ◌, ◌≤ℤ◌, List, [], ◌∷◌, ◌++◌, length}
-use Rattle.tl_base.specs.Style.{gap_of}
 use Rattle.tl_diff.specs.Bounds.{Bounds, Satisfies}
 use Rattle.tl_diff.specs.Marks.{MarkedBounds}
 use Rattle.tl_problem.specs.declared.work.Work.{Work}
@@ -12,7 +11,7 @@ use Rattle.tl_problem.specs.Sound.{IsSound}
 
 -- where each column begins, as an assignment to the variables of a matrix
 abbrev pub places : ProblemModel → List ℕ → ℕ → ℤ
-places problem widths k = pos (position (gap_of problem.style) widths k)
+places problem widths k = pos (position problem.spacing.gap widths k)
 
 -- the widths, one for each column, satisfy the constraints
 pub record AreAllowed (problem : ProblemModel) (bounds : Bounds) (widths : List ℕ) : Type 0 where
@@ -22,7 +21,7 @@ pub record AreAllowed (problem : ProblemModel) (bounds : Bounds) (widths : List 
 -- the constraints keep the gaps and the page: columns follow each other, and what they leave is within the page
 pub record KeepsPage (problem : ProblemModel) (bounds : Bounds) : Type 0 where
   pub variables : bounds.n ≡ problem.cols + 1
-  pub gaps : (x : ℕ → ℤ) → Satisfies bounds x → (k : ℕ) → k < problem.cols → (x k +ℤ pos (gap_of problem.style)) ≤ℤ x (k + 1)
+  pub gaps : (x : ℕ → ℤ) → Satisfies bounds x → (k : ℕ) → k < problem.cols → (x k +ℤ pos problem.spacing.gap) ≤ℤ x (k + 1)
   pub page : (widths : List ℕ) → AreAllowed problem bounds widths → WithinPage problem widths
 
 -- the matrix has the constraints of the problem's page and no others: it leaves all widths within the page

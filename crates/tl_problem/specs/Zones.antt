@@ -1,7 +1,6 @@
 -- Zones of a problem, the widths in them, and their class vectors. A zone gives each span a range of its classes; spans and classes go by
 -- number, from 0.
 use Rattle.std.specs.Prelude.{◌≡◌, ◌≢◌, ℕ, ◌+◌, ◌-◌, ◌<◌, ◌≤◌, List, length, map, get_or, set}
-use Rattle.tl_base.specs.Style.{gap_of}
 use Rattle.tl_problem.specs.declared.cell.Span.{Span}
 use Rattle.tl_problem.specs.declared.zone.Range.{Range}
 use Rattle.tl_base.specs.Sizes.{room}
@@ -53,7 +52,7 @@ upper_part zone s class = set zone s (range (class + 1) (range_at zone s).last)
 
 -- the room that columns of these widths give a span
 abbrev pub span_width : ProblemModel → List ℕ → ℕ → ℕ
-span_width problem widths s = room (gap_of problem.style) widths (span_at problem s).left (span_at problem s).right
+span_width problem widths s = room problem.spacing.gap widths (span_at problem s).left (span_at problem s).right
 
 -- the range with this number is the first of more than one class
 pub record IsFirstOpen (zone : List Range) (s : ℕ) : Type 0 where

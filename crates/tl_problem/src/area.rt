@@ -60,10 +60,10 @@ fn area_bound(problem: &Problem, matrix: &Matrix) -> u32
     if problem.cols() == 0 {
         return 0;
     }
-    let style = problem.style();
+    let spacing = problem.spacing();
     let end = greatest_end(problem, matrix);
     let lines = sum_of_areas(problem, matrix, end).div_ceil(u64::from(end)) as u32;
-    (2 * style.edge() + lines).saturating_sub(style.row_gap())
+    (spacing.lines + lines).saturating_sub(spacing.row_gap)
 }
 
 /// The greatest place at which the columns end.
@@ -105,8 +105,8 @@ fn least_area(problem: &Problem, matrix: &Matrix, cell: &Cell) -> u64
     requires inside { Contains problem.now.cells cell.now }
     ensures { IsLeastArea problem.now (AreAllowed problem.now matrix.now.bounds) cell.now result }
 {
-    let gap = problem.style().gap();
-    let row_gap = problem.style().row_gap();
+    let gap = problem.spacing().gap;
+    let row_gap = problem.spacing().row_gap;
     let low = least_room(problem, gap, matrix, cell);
     let high = greatest_room(problem, gap, matrix, cell);
     let height = cell.low.height_at(low).unwrap();

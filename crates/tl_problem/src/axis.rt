@@ -51,8 +51,8 @@ impl Axis {
         ensures { result ≡ gap_on self problem.now }
     {
         match self {
-            Axis::Columns => problem.style().gap(),
-            Axis::Rows => problem.style().row_gap(),
+            Axis::Columns => problem.spacing().gap,
+            Axis::Rows => problem.spacing().row_gap,
         }
     }
 }

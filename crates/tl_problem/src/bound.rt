@@ -2,7 +2,6 @@
 
 ghost use Rattle.std.specs.Prelude.{◌≡◌, ℕ, ◌+◌, ◌<◌, ◌≤◌, pos, ◌+ℤ◌, ◌≤ℤ◌, List, length, Contains};
 ghost use Rattle.std.specs.Prelude.{Some, IfOk, MatchOption};
-ghost use Rattle.tl_base.specs.Style.{gap_of};
 ghost use Rattle.tl_base.specs.Steps.{first_width, height_at};
 ghost use Rattle.tl_diff.specs.Bounds.{IsSatisfiable, assignment_of};
 ghost use Rattle.tl_problem.specs.Bounds.{HasNoWidths, IsBound, IsGreatestRoom};
@@ -77,7 +76,7 @@ impl Problem {
         requires zone { IsZone self.now zone.now }
         requires work { IsWorkOf self.now work.old }
         ensures widths { IfOk result (λ found. MatchOption found (HasNoWidths (InZone self.now zone.now))
-            (AreLeast (gap_of self.now.style) (InZone self.now zone.now))) }
+            (AreLeast self.now.spacing.gap (InZone self.now zone.now))) }
         ensures work_of { IsWorkOf self.now work.new }
         ensures matrix { work.new.matrix ≡ work.old.matrix }
     {
@@ -190,7 +189,7 @@ fn zone_widths(
     requires keeps { KeepsPage problem.now matrix.old.bounds }
     requires whole { (widths : List ℕ) → WithinPage problem.now widths → AreAllowed problem.now matrix.old.bounds widths }
     ensures widths { IfOk result (λ found. MatchOption found (HasNoWidths (InZone problem.now zone.now))
-        (AreLeast (gap_of problem.now.style) (InZone problem.now zone.now))) }
+        (AreLeast problem.now.spacing.gap (InZone problem.now zone.now))) }
     ensures held { matrix.new.held ≡ matrix.old.held }
     ensures marks { matrix.new.marks ≡ matrix.old.marks }
 {
@@ -206,7 +205,7 @@ fn least_widths(problem: &Problem, matrix: &Matrix) -> Result<List<u32>, AllocEr
     requires sound { IsSound problem.now }
     requires keeps { KeepsPage problem.now matrix.now.bounds }
     requires some { IsSatisfiable matrix.now.bounds }
-    ensures { IfOk result (AreLeast (gap_of problem.now.style) (AreAllowed problem.now matrix.now.bounds)) }
+    ensures { IfOk result (AreLeast problem.now.spacing.gap (AreAllowed problem.now matrix.now.bounds)) }
 {
     let mut places = vec![in problem.alloc(); 0; problem.cols() as usize + 1]?;
     let widths = widths_in(problem, matrix, &mut places)?;
@@ -223,7 +222,7 @@ fn widths_in(
     requires keeps { KeepsPage problem.now matrix.now.bounds }
     requires some { IsSatisfiable matrix.now.bounds }
     requires room { length places.old ≡ problem.now.cols + 1 }
-    ensures { IfOk result (AreLeast (gap_of problem.now.style) (AreAllowed problem.now matrix.now.bounds)) }
+    ensures { IfOk result (AreLeast problem.now.spacing.gap (AreAllowed problem.now matrix.now.bounds)) }
 {
     matrix.solve_least(places);
     let widths = widths_between(problem, places)?;
@@ -258,7 +257,7 @@ fn fill_low(problem: &Problem, matrix: &Matrix, demands: &mut [u32])
     ensures low { NeedLow problem.now (AreAllowed problem.now matrix.now.bounds) demands.new }
     ensures sound { IsSound problem.now }
 {
-    let gap = problem.style().gap();
+    let gap = problem.spacing().gap;
     let cells = problem.cells();
     for number in 0..cells.len() {
         demands[number] = low_at_greatest(problem, gap, matrix, &cells[number]);
@@ -270,7 +269,7 @@ fn low_at_greatest(problem: &Problem, gap: u32, matrix: &Matrix, cell: &Cell) ->
     requires sound { IsSound problem.now }
     requires keeps { KeepsPage problem.now matrix.now.bounds }
     requires some { IsSatisfiable matrix.now.bounds }
-    requires gap { gap ≡ gap_of problem.now.style }
+    requires gap { gap ≡ problem.now.spacing.gap }
     requires cell { IsSoundCell problem.now cell.now }
     requires inside { Contains problem.now.cells cell.now }
     ensures { (w : ℕ) × (IsGreatestRoom problem.now (AreAllowed problem.now matrix.now.bounds) cell.now.left cell.now.right w
@@ -299,7 +298,7 @@ pub fn greatest_room(problem: &Problem, gap: u32, matrix: &Matrix, cell: &Cell) 
     requires sound { IsSound problem.now }
     requires keeps { KeepsPage problem.now matrix.now.bounds }
     requires some { IsSatisfiable matrix.now.bounds }
-    requires gap { gap ≡ gap_of problem.now.style }
+    requires gap { gap ≡ problem.now.spacing.gap }
     requires cell { IsSoundCell problem.now cell.now }
     ensures room { IsGreatestRoom problem.now (AreAllowed problem.now matrix.now.bounds) cell.now.left cell.now.right result }
     ensures small { result ≤ MAX_PAGE_WIDTH }
@@ -313,7 +312,7 @@ pub fn least_room(problem: &Problem, gap: u32, matrix: &Matrix, cell: &Cell) -> 
     requires sound { IsSound problem.now }
     requires keeps { KeepsPage problem.now matrix.now.bounds }
     requires some { IsSatisfiable matrix.now.bounds }
-    requires gap { gap ≡ gap_of problem.now.style }
+    requires gap { gap ≡ problem.now.spacing.gap }
     requires cell { IsSoundCell problem.now cell.now }
     ensures room { IsLeastRoom problem.now (AreAllowed problem.now matrix.now.bounds) cell.now.left cell.now.right result }
     ensures small { result ≤ MAX_PAGE_WIDTH }
@@ -329,11 +328,11 @@ fn widths_between(problem: &Problem, places: &[i32]) -> Result<List<u32>, AllocE
     requires small { (k : ℕ) → k ≤ problem.now.cols →
         (pos 0 ≤ℤ assignment_of places.now k) × (assignment_of places.now k ≤ℤ pos (MAX_PAGE_WIDTH + 2)) }
     requires rising { (k : ℕ) → k < problem.now.cols →
-        (assignment_of places.now k +ℤ pos (gap_of problem.now.style)) ≤ℤ assignment_of places.now (k + 1) }
+        (assignment_of places.now k +ℤ pos problem.now.spacing.gap) ≤ℤ assignment_of places.now (k + 1) }
     ensures { IfOk result (λ widths.
-        widths ≡ widths_of (assignment_of places.now) (gap_of problem.now.style) problem.now.cols) }
+        widths ≡ widths_of (assignment_of places.now) problem.now.spacing.gap problem.now.cols) }
 {
-    let gap = problem.style().gap() as i32;
+    let gap = problem.spacing().gap as i32;
     let mut widths = List::new(problem.alloc());
     for column in 0..problem.cols() as usize {
         widths.push((places[column + 1] - places[column] - gap) as u32)?;

@@ -28,8 +28,8 @@ pub fn page_matrix(problem: &Problem) -> Result<Matrix, AllocError>
 {
     let cols = problem.cols();
     let spans = problem.spans();
-    let style = problem.style();
-    let most = (problem.width() + style.gap()).saturating_sub(2 * style.edge());
+    let spacing = problem.spacing();
+    let most = (problem.width() + spacing.gap).saturating_sub(spacing.edges);
     let mut matrix = Matrix::new(problem.alloc(), cols + 1, MARKS)?;
     // A room keeps the gap past its columns too, so that most gaps change nothing then.
     add_rooms(problem, spans, &mut matrix);
@@ -43,7 +43,7 @@ fn add_gaps(problem: &Problem, matrix: &mut Matrix)
     requires { PageUpto problem.now 0 (length (spans_of problem.now)) matrix.old }
     ensures { PageUpto problem.now problem.now.cols (length (spans_of problem.now)) matrix.new }
 {
-    let gap = problem.style().gap();
+    let gap = problem.spacing().gap;
     for column in 0..problem.cols() {
         keep_apart(matrix, column, column + 1, gap);
     }
@@ -56,7 +56,7 @@ fn add_rooms(problem: &Problem, spans: &[Span], matrix: &mut Matrix)
     requires page { PageUpto problem.now 0 0 matrix.old }
     ensures { PageUpto problem.now 0 (length (spans_of problem.now)) matrix.new }
 {
-    let gap = problem.style().gap();
+    let gap = problem.spacing().gap;
     for s in 0..spans.len() {
         let span = spans[s];
         let least = problem.class_list(s)[0];
@@ -131,7 +131,7 @@ fn keep_first(problem: &Problem, zone: &Zone, s: usize, matrix: &mut Matrix) -> 
         matrix,
         span.left,
         span.right,
-        classes[first] + problem.style().gap(),
+        classes[first] + problem.spacing().gap,
     )
 }
 
@@ -155,6 +155,6 @@ fn keep_last(problem: &Problem, zone: &Zone, s: usize, matrix: &mut Matrix) -> b
         matrix,
         span.left,
         span.right,
-        classes[next] - 1 + problem.style().gap(),
+        classes[next] - 1 + problem.spacing().gap,
     )
 }

@@ -2,7 +2,6 @@
 //! over the cells in the order in which they begin.
 
 ghost use Rattle.std.specs.Prelude.{◌≡◌, ℕ, ◌+◌, ◌-◌, ◌*◌, ◌<◌, ◌≤◌, ◌^◌, length, slice_index, sum, IfOk};
-ghost use Rattle.tl_base.specs.Style.{edge_of, row_gap_of};
 ghost use Rattle.tl_base.specs.Sizes.{IsLeastTotal};
 ghost use Rattle.tl_problem.specs.declared.axis.Axis.TheVariants.{Rows};
 ghost use Rattle.tl_problem.specs.Placements.{AreLeast};
@@ -63,16 +62,16 @@ pub fn least_height(problem: &Problem, demands: &[u32], arcs: &mut [Arc], ends: 
     requires fits { sum demands.now ≤ MAX_HEIGHT }
     requires arc_room { length arcs.old ≡ length problem.now.cells }
     requires end_room { length ends.old ≡ problem.now.rows + 1 }
-    ensures { IsLeastTotal (row_gap_of problem.now.style) (edge_of problem.now.style)
+    ensures { IsLeastTotal problem.now.spacing.row_gap problem.now.spacing.lines
         (GiveDemands problem.now Rows demands.now) result }
 {
-    let style = problem.style();
+    let spacing = problem.spacing();
     let rows = problem.rows();
     let sizes = find_ends(problem, Axis::Rows, demands, arcs, ends);
     if rows == 0 {
         return 0;
     }
-    sizes + style.row_gap() * (rows - 1) + 2 * style.edge()
+    sizes + spacing.row_gap * (rows - 1) + spacing.lines
 }
 
 /// Fills `ends[k]` with the least sum of the first `k` sizes, and returns that of all.

@@ -5,7 +5,6 @@ ghost use Rattle.tl_base.specs.Steps.{AreSteps, IsLeastWidthFor, first_width, he
 ghost use Rattle.tl_problem.specs.Layouts.{GiveHigh, WithinPage};
 ghost use Rattle.tl_problem.specs.Placements.{HasNoLower, IsOpening, IsPlacement};
 ghost use Rattle.tl_base.specs.Sizes.{IsLeastTotal, room};
-ghost use Rattle.tl_base.specs.Style.{edge_of, row_gap_of};
 ghost use Rattle.tl_problem.specs.Sound.{IsSound};
 ghost use Rattle.tl_problem.specs.Tight.{IsTight, IsTightFrom};
 ghost use Rattle.tl_problem.specs.Works.{IsWorkOf};
@@ -96,15 +95,15 @@ fn is_within_page(problem: &Problem, widths: &[u32]) -> bool
     ensures { IsTrue result ↔ WithinPage problem.now widths.now }
 {
     let cells = problem.cells();
-    let style = problem.style();
+    let spacing = problem.spacing();
     if widths.len() != problem.cols() as usize
-        || total_size(style.gap(), style.edge(), widths) > u64::from(problem.width())
+        || total_size(spacing.gap, spacing.edges, widths) > u64::from(problem.width())
     {
         return false;
     }
     for number in 0..cells.len() {
         let cell = &cells[number];
-        if room_on_page(style.gap(), widths, cell.left, cell.right) < cell.low.least() {
+        if room_on_page(spacing.gap, widths, cell.left, cell.right) < cell.low.least() {
             return false;
         }
     }
@@ -119,9 +118,9 @@ pub fn place_under(problem: &Problem, widths: &[u32]) -> Result<Placed, AllocErr
     let cells = problem.cells();
     let demands = high_needs(problem, cells, widths)?;
     let heights = least_sizes(problem, Axis::Rows, &demands)?;
-    let style = problem.style();
-    let width = total_size(style.gap(), style.edge(), widths) as u32;
-    let height = total_size(style.row_gap(), style.edge(), heights.as_slice()) as u32;
+    let spacing = problem.spacing();
+    let width = total_size(spacing.gap, spacing.edges, widths) as u32;
+    let height = total_size(spacing.row_gap, spacing.lines, heights.as_slice()) as u32;
     Ok(Placed {
         widths: List::from_slice(problem.alloc(), widths)?,
         heights,
@@ -149,7 +148,7 @@ fn high_needs(problem: &Problem, cells: &[Cell], widths: &[u32]) -> Result<Vec<u
     requires page { WithinPage problem.now widths.now }
     ensures { IfOk result (λ demands. NeedHigh problem.now widths.now demands.items) }
 {
-    let gap = problem.style().gap();
+    let gap = problem.spacing().gap;
     let mut demands = Vec::new(problem.alloc());
     for number in 0..cells.len() {
         demands.push(high_at(gap, widths, &cells[number]))?;
@@ -169,7 +168,7 @@ fn height_under(
     requires demand_room { length demands.old ≡ length problem.now.cells }
     requires arc_room { length arcs.old ≡ length problem.now.cells }
     requires end_room { length ends.old ≡ problem.now.rows + 1 }
-    ensures { IsLeastTotal (row_gap_of problem.now.style) (edge_of problem.now.style) (GiveHigh problem.now widths.now) result }
+    ensures { IsLeastTotal problem.now.spacing.row_gap problem.now.spacing.lines (GiveHigh problem.now widths.now) result }
 {
     fill_high(problem, widths, demands);
     least_height(problem, demands, arcs, ends)
@@ -182,7 +181,7 @@ fn fill_high(problem: &Problem, widths: &[u32], demands: &mut [u32])
     ensures high { NeedHigh problem.now widths.now demands.new }
     ensures sound { IsSound problem.now }
 {
-    let gap = problem.style().gap();
+    let gap = problem.spacing().gap;
     let cells = problem.cells();
     for number in 0..cells.len() {
         demands[number] = high_at(gap, widths, &cells[number]);
@@ -196,7 +195,7 @@ fn width_needs(problem: &Problem, cells: &[Cell], widths: &[u32]) -> Result<Vec<
     requires page { WithinPage problem.now widths.now }
     ensures { IfOk result (λ demands. NeedWidths problem.now widths.now demands.items) }
 {
-    let gap = problem.style().gap();
+    let gap = problem.spacing().gap;
     let mut demands = Vec::new(problem.alloc());
     for number in 0..cells.len() {
         demands.push(width_at(gap, widths, &cells[number]))?;

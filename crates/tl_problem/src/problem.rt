@@ -1,6 +1,7 @@
 //! A problem: a grid of cells to be laid out on a page of some width.
 
 ghost use Rattle.std.specs.Prelude.{◌≡◌, ◌-◌, ◌*◌, ◌<◌, ◌≤◌, ◌^◌, length, min, IfOk};
+ghost use Rattle.tl_base.specs.Style.{IsSpacing};
 ghost use Rattle.tl_problem.specs.Sound.{IsSound};
 ghost use Rattle.tl_problem.specs.Spans.{count_of, spans_of};
 ghost use Rattle.tl_problem.specs.inner.Axes.{IsOrder};
@@ -11,16 +12,16 @@ use crate::spans::{find_classes, find_spans};
 use crate::{Cell, Range, Span, Zone};
 use std::alloc::{AllocError, Global};
 use std::marker::Model;
-use tl_base::{List, Style};
+use tl_base::{List, Spacing};
 
 /// A grid of cells on a page of `width` columns. Contracts see it as the record of its columns, rows,
-/// style, width and cells; it is sound.
+/// spacing, width and cells; it is sound.
 #[derive(Debug)]
 pub struct Problem {
     alloc: Global,
     cols: u32,
     rows: u32,
-    style: Style,
+    spacing: Spacing,
     width: u32,
     cells: List<Cell>,
     spans: Vec<Span>,
@@ -35,7 +36,7 @@ impl Drop for Problem {
             alloc: _alloc,
             cols: _cols,
             rows: _rows,
-            style: _style,
+            spacing: _spacing,
             width: _width,
             cells: _cells,
             spans: _spans,
@@ -51,11 +52,11 @@ impl Model for Problem {
 
     ghost Value = { ProblemModel };
 
-    ghost view = { λ p. record { cols = p.cols; rows = p.rows; style = p.style; width = p.width; cells = p.cells } };
+    ghost view = { λ p. record { cols = p.cols; rows = p.rows; spacing = p.spacing; width = p.width; cells = p.cells } };
 
     ghost use Rattle.tl_problem.specs.inner.Parts.{HasParts};
 
-    ghost invariant = { λ p. HasParts (record { cols = p.cols; rows = p.rows; style = p.style; width = p.width; cells = p.cells })
+    ghost invariant = { λ p. HasParts (record { cols = p.cols; rows = p.rows; spacing = p.spacing; width = p.width; cells = p.cells })
         p.spans.items p.classes.items p.by_left.items p.by_top.items };
 }
 
@@ -67,14 +68,14 @@ impl Problem {
         alloc: Global,
         cols: u32,
         rows: u32,
-        style: Style,
+        spacing: Spacing,
         width: u32,
         cells: List<Cell>,
     ) -> Result<Problem, AllocError>
-        requires { IsSound (record { cols = cols; rows = rows; style = style; width = width; cells = cells }) }
-        ensures { IfOk result (λ problem. problem ≡ record { cols = cols; rows = rows; style = style; width = width; cells = cells }) }
+        requires { IsSound (record { cols = cols; rows = rows; spacing = spacing; width = width; cells = cells }) }
+        ensures { IfOk result (λ problem. problem ≡ record { cols = cols; rows = rows; spacing = spacing; width = width; cells = cells }) }
     {
-        let page_room = width.saturating_sub(2 * style.edge());
+        let page_room = width.saturating_sub(spacing.edges);
         let spans = find_spans(alloc, cols, cells.as_slice())?;
         let by_left = order(alloc, cells.as_slice(), Axis::Columns)?;
         let classes = find_classes(alloc, cells.as_slice(), &by_left, &spans, page_room)?;
@@ -83,7 +84,7 @@ impl Problem {
             alloc,
             cols,
             rows,
-            style,
+            spacing,
             width,
             cells,
             spans,
@@ -114,11 +115,12 @@ impl Problem {
         self.width
     }
 
-    /// How the table is drawn.
-    pub fn style(&self) -> Style
-        ensures { result ≡ self.now.style }
+    /// How far its columns and rows stand apart.
+    pub fn spacing(&self) -> Spacing
+        ensures spacing { result ≡ self.now.spacing }
+        ensures sound { IsSpacing self.now.spacing }
     {
-        self.style
+        self.spacing
     }
 
     /// Lends the cells, in the order in which they were given.

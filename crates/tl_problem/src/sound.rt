@@ -3,6 +3,7 @@
 ghost use Rattle.std.specs.Prelude.{◌≡◌, ℕ, ◌+◌, ◌*◌, ◌<◌, ◌≤◌, ◌↔◌, List, length, get_or, sum_by, None, IfNone, IfSome, IsTrue};
 ghost use Rattle.std.specs.List.{All, Any};
 ghost use Rattle.tl_base.specs.declared.limits.TheConstants.{MAX_COLUMNS};
+ghost use Rattle.tl_base.specs.Style.{IsSpacing};
 ghost use Rattle.tl_base.specs.Steps.{AreSteps, IsLowAt, first_height};
 ghost use Rattle.tl_problem.specs.declared.cell.Cell.{Cell};
 ghost use Rattle.tl_problem.specs.declared.sound.TheConstants.{PLACES};
@@ -15,7 +16,7 @@ ghost use Rattle.tl_problem.specs.inner.Spanning.{IsInGrid};
 
 use crate::axis::Axis;
 use crate::{Cell, Problem};
-use tl_base::{Config, MAX_COLUMNS, MAX_HEIGHT, MAX_PAGE_WIDTH, MAX_ROWS, Steps, Style};
+use tl_base::{Config, MAX_COLUMNS, MAX_HEIGHT, MAX_PAGE_WIDTH, MAX_ROWS, Spacing, Steps};
 
 /// The places of columns: where each begins, and where the last one ends.
 const PLACES: usize = MAX_COLUMNS + 1;
@@ -24,14 +25,17 @@ const PLACES: usize = MAX_COLUMNS + 1;
 const FEW_PLACES: usize = 9;
 
 impl Problem {
-    /// Whether these are a sound problem's columns, rows, style, width and cells, so that
+    /// Whether these are a sound problem's columns, rows, spacing, width and cells, so that
     /// `Problem::new` may be called with them: in the limits, no two cells over one slot, a cell that
     /// begins in each column and row, and a layout within the page. No memory is taken. If the cells stand
     /// by their tops, each is compared with the later ones that begin beside it alone; in another order with
     /// all later ones, and the time grows with the square of their number.
-    pub fn is_sound(cols: u32, rows: u32, style: Style, width: u32, cells: &[Cell]) -> bool
-        ensures { IsTrue result ↔ IsSound (record { cols = cols; rows = rows; style = style; width = width; cells = cells.now }) }
+    pub fn is_sound(cols: u32, rows: u32, spacing: Spacing, width: u32, cells: &[Cell]) -> bool
+        ensures { IsTrue result ↔ IsSound (record { cols = cols; rows = rows; spacing = spacing; width = width; cells = cells.now }) }
     {
+        if !is_spacing(spacing) {
+            return false;
+        }
         if cols as usize > MAX_COLUMNS || rows as usize > MAX_ROWS + 1 || width > MAX_PAGE_WIDTH {
             return false;
         }
@@ -41,8 +45,19 @@ impl Problem {
         if !each_begins(cells, Axis::Columns, cols) || !each_begins(cells, Axis::Rows, rows) {
             return false;
         }
-        fits(cols, style, width, cells)
+        fits(cols, spacing, width, cells)
     }
+}
+
+/// Whether columns stand apart, rows at most by a line, and what stands beside them is little.
+fn is_spacing(spacing: Spacing) -> bool
+    ensures { IsTrue result ↔ IsSpacing spacing }
+{
+    spacing.gap >= 1
+        && spacing.gap <= 2
+        && spacing.row_gap <= 1
+        && spacing.edges <= 2
+        && spacing.lines as usize <= MAX_ROWS + 2
 }
 
 /// Whether each cell lies in the grid and is sound.
@@ -213,43 +228,45 @@ fn are_low_enough(cells: &[Cell]) -> bool
 
 /// Whether some widths are within the page: whether the columns can end there, if each begins at the
 /// least place that the least widths of the cells leave.
-fn fits(cols: u32, style: Style, width: u32, cells: &[Cell]) -> bool
+fn fits(cols: u32, spacing: Spacing, width: u32, cells: &[Cell]) -> bool
+    requires spaced { IsSpacing spacing }
     requires few { cols ≤ MAX_COLUMNS }
     requires narrow { width ≤ MAX_PAGE_WIDTH }
     requires grid { All (IsInGrid cols) cells.now }
-    ensures { IsTrue result ↔ FitsPageWidth cols style width cells.now }
+    ensures { IsTrue result ↔ FitsPageWidth cols spacing width cells.now }
 {
     // To clear room for all pairs of places takes longer than all else here where columns are few.
     if (cols as usize) < FEW_PLACES {
         let mut widest = [None; FEW_PLACES * FEW_PLACES];
-        return fits_between(cols, style, width, cells, FEW_PLACES, &mut widest);
+        return fits_between(cols, spacing, width, cells, FEW_PLACES, &mut widest);
     }
     let mut widest = [None; PLACES * PLACES];
-    fits_between(cols, style, width, cells, PLACES, &mut widest)
+    fits_between(cols, spacing, width, cells, PLACES, &mut widest)
 }
 
 /// Whether some widths are within the page. `widest` is room for each two of `side` places, and clear.
 fn fits_between(
     cols: u32,
-    style: Style,
+    spacing: Spacing,
     width: u32,
     cells: &[Cell],
     side: usize,
     widest: &mut [Option<u32>],
 ) -> bool
+    requires spaced { IsSpacing spacing }
     requires few { cols < side }
     requires side { side ≤ PLACES }
     requires narrow { width ≤ MAX_PAGE_WIDTH }
     requires grid { All (IsInGrid cols) cells.now }
     requires size { length widest.old ≡ side * side }
     requires clear { (pair : ℕ) → get_or widest.old pair None ≡ None }
-    ensures { IsTrue result ↔ FitsPageWidth cols style width cells.now }
+    ensures { IsTrue result ↔ FitsPageWidth cols spacing width cells.now }
 {
-    let end = width + style.gap();
+    let end = width + spacing.gap;
     find_widest(cells, side, widest);
     let mut places = [0; PLACES];
     for column in 0..cols as usize {
-        let place = next_place(widest, side, style.gap(), &places, column);
+        let place = next_place(widest, side, spacing.gap, &places, column);
         if place > u64::from(end) {
             return false;
         }
@@ -258,7 +275,7 @@ fn fits_between(
     if cols == 0 {
         return true;
     }
-    places[cols as usize] + 2 * style.edge() <= end
+    places[cols as usize] + spacing.edges <= end
 }
 
 /// Writes for each two of `side` places of columns the greatest least width of the cells between them, and

@@ -8,7 +8,7 @@ ghost use Rattle.tl_problem.specs.Zones.{IsZone};
 use std::alloc::Global;
 use std::process::Abort;
 use std::test::Fail;
-use tl_base::{Config, List, Steps, Style};
+use tl_base::{Config, List, Spacing, Steps, Style};
 use tl_diff::{Arc, Matrix};
 use tl_problem::{Cell, Placed, Problem, Range, Span, Work, Zone};
 
@@ -52,6 +52,22 @@ plain 1x1 2 | 0-1 0-1 = 2:3 5:2 8:1 | Some(3) Some(3) [2] [3] 2x3
 plain 1x1 3 | 0-1 0-1 = 1:2 3:1 / 1:4 3:2 | Some(1) Some(1) [1] [4] 1x4
 plain 0x0 10 |  | Some(0) Some(0) [] [] 0x0
 frame 0x0 10 |  | Some(0) Some(0) [] [] 0x0";
+
+// The same with five lines beside the rows, which each height has: the areas are 12 and 4, on 10 columns.
+const WITH_LINES: &str = "\
+2,0,0,5 1x2 8 | 0-1 0-1 = 2:3; 0-1 1-2 = 2:1 | Some(9) Some(7) [2] [3, 1] 2x9
+2,1,0,5 1x2 8 | 0-1 0-1 = 2:3; 0-1 1-2 = 2:1 | Some(10) Some(7) [2] [3, 1] 2x10
+2,1,2,5 0x0 8 |  | Some(0) Some(0) [] [] 0x0";
+
+// A sound problem has columns that stand apart, rows with at most a line between them, and little beside.
+const SPACED: &str = "\
+1,0,0,0 1x1 8 | 0-1 0-1 = 2:3 | true
+2,1,2,2002 1x1 8 | 0-1 0-1 = 2:3 | true
+0,0,0,0 1x1 8 | 0-1 0-1 = 2:3 | false
+3,0,0,0 1x1 8 | 0-1 0-1 = 2:3 | false
+1,2,0,0 1x1 8 | 0-1 0-1 = 2:3 | false
+1,0,3,0 1x1 8 | 0-1 0-1 = 2:3 | false
+1,0,0,2003 1x1 8 | 0-1 0-1 = 2:3 | false";
 
 // The placement under widths: two cells, a colspan, rowspans over two and three rows, and no cell.
 const PLACED: &str = "\
@@ -169,21 +185,34 @@ fn cells(alloc: Global, text: &str) -> Result<List<Cell>, Fail> {
     Ok(list)
 }
 
-/// The problem of these cells on this page, or `None` if it is not sound. A page is its style, the columns
-/// and rows of the grid, and its width: `plain 2x1 12`.
+/// A spacing: that of a style, or its gap, row gap, edges and lines, as `2,0,0,5`.
+fn spacing(text: &str) -> Result<Spacing, Fail> {
+    if text == "frame" {
+        return Ok(Style::Frame.spacing());
+    }
+    if text == "plain" {
+        return Ok(Style::Plain.spacing());
+    }
+    let (gap, rest) = text.split_once(',').ok_or("no row gap")?;
+    let (row_gap, rest) = rest.split_once(',').ok_or("no edges")?;
+    let (edges, lines) = rest.split_once(',').ok_or("no lines")?;
+    Ok(Spacing {
+        gap: number(gap)?,
+        row_gap: number(row_gap)?,
+        edges: number(edges)?,
+        lines: number(lines)?,
+    })
+}
+
+/// The problem of these cells on this page, or `None` if it is not sound. A page is its spacing, the
+/// columns and rows of the grid, and its width: `plain 2x1 12`.
 fn sound(alloc: Global, page: &str, text: &str) -> Result<Option<Problem>, Fail> {
-    let (style, page) = page.split_once(' ').ok_or("no grid")?;
+    let (apart, page) = page.split_once(' ').ok_or("no grid")?;
     let (size, width) = page.split_once(' ').ok_or("no width")?;
-    let style = if style == "frame" {
-        Style::Frame
-    } else if style == "plain" {
-        Style::Plain
-    } else {
-        return Err("no style".into());
-    };
+    let spacing = spacing(apart)?;
     let (cols, rows) = pair(size, 'x')?;
     let width = number(width)?;
-    made(alloc, cols, rows, style, width, cells(alloc, text)?)
+    made(alloc, cols, rows, spacing, width, cells(alloc, text)?)
 }
 
 /// The problem, if it is sound.
@@ -191,14 +220,14 @@ fn made(
     alloc: Global,
     cols: u32,
     rows: u32,
-    style: Style,
+    spacing: Spacing,
     width: u32,
     cells: List<Cell>,
 ) -> Result<Option<Problem>, Fail> {
-    if !Problem::is_sound(cols, rows, style, width, cells.as_slice()) {
+    if !Problem::is_sound(cols, rows, spacing, width, cells.as_slice()) {
         return Ok(None);
     }
-    Ok(Some(Problem::new(alloc, cols, rows, style, width, cells)?))
+    Ok(Some(Problem::new(alloc, cols, rows, spacing, width, cells)?))
 }
 
 /// The problem of these cells on this page, which is sound.
@@ -295,6 +324,17 @@ fn shown_opening(alloc: Global, problem: &Problem) -> Result<String, Fail> {
 #[test]
 fn whole_problems_have_the_bounds_counted_by_hand(rt: HostRuntime) -> Result<(), Fail> {
     for row in WHOLES.lines() {
+        let (page, rest) = halves(row)?;
+        let (cells, wanted) = halves(rest)?;
+        let found = found_in_whole(rt.alloc(), &problem(rt.alloc(), page, cells)?)?;
+        check_text(&rt, row, found.as_str(), wanted);
+    }
+    Ok(())
+}
+
+#[test]
+fn the_lines_beside_the_rows_are_in_each_height(rt: HostRuntime) -> Result<(), Fail> {
+    for row in WITH_LINES.lines() {
         let (page, rest) = halves(row)?;
         let (cells, wanted) = halves(rest)?;
         let found = found_in_whole(rt.alloc(), &problem(rt.alloc(), page, cells)?)?;
@@ -547,6 +587,16 @@ fn a_sound_problem_keeps_the_grid_its_steps_and_the_page(rt: HostRuntime) -> Res
     Ok(())
 }
 
+#[test]
+fn a_sound_problem_has_a_spacing(rt: HostRuntime) -> Result<(), Fail> {
+    for row in SPACED.lines() {
+        let (page, rest) = halves(row)?;
+        let (cells, wanted) = halves(rest)?;
+        check_text(&rt, row, soundness(rt.alloc(), page, cells)?, wanted);
+    }
+    Ok(())
+}
+
 /// A row of so many cells, some of which have the one step function and the others two steps.
 fn a_row(alloc: Global, cols: u32, more: u32, one: &str) -> Result<Option<Problem>, Fail> {
     let mut cells = List::new(alloc);
@@ -563,7 +613,7 @@ fn a_row(alloc: Global, cols: u32, more: u32, one: &str) -> Result<Option<Proble
             high,
         })?;
     }
-    made(alloc, cols, 1, Style::Plain, 200, cells)
+    made(alloc, cols, 1, Style::Plain.spacing(), 200, cells)
 }
 
 /// The count of such a row, or that it is no sound problem.

@@ -5,7 +5,6 @@ use Rattle.std.proofs.Common.{append_assoc, length-append}
 use Rattle.std.specs.List.{All}
 use Rattle.std.proofs.lemmas.List.Elements.{All-nil, All-push}
 use Rattle.tl_base.specs.declared.limits.TheConstants.{MAX_BUDGET}
-use Rattle.tl_base.specs.Style.{gap_of, row_gap_of, edge_of}
 use Rattle.tl_problem.specs.declared.placed.Placed.{Placed}
 use Rattle.tl_problem.specs.declared.zone.Range.{Range}
 use Rattle.tl_problem.specs.Problem.{ProblemModel}
@@ -54,7 +53,7 @@ looked-lower problem zone height best less (inr (inr found)) = inr (inr (
 pub no_lower-placement : (problem : ProblemModel) (placed : Placed) (height : ℕ) → IsPlacement problem placed →
     height ≤ placed.height → HasNoLower problem placed.widths height
 no_lower-placement problem placed height is upto heights give =
-    let less = least-total (row_gap_of problem.style) (edge_of problem.style) (GiveHigh problem placed.widths) placed.heights
+    let less = least-total problem.spacing.row_gap problem.spacing.lines (GiveHigh problem placed.widths) placed.heights
     heights is.rows give (is.rows.kind.rows ∙ sym give.rows) in
     omega (arith, less, is.height, upto)
 
@@ -72,7 +71,7 @@ looked-keen problem sound zone height (inr (inl high)) placed is =
     let below = bound-below_placement problem sound (InZone problem zone) high.0 placed high.1 is.columns.kind is.placement in
     omega (arith, below, high.2)
 looked-keen problem sound zone height (inr (inr found)) placed is =
-    let same = least-unique (gap_of problem.style) (InZone problem zone) placed.widths found.0
+    let same = least-unique problem.spacing.gap (InZone problem zone) placed.widths found.0
     (is.placement.page.columns ∙ sym found.1.kind.page.columns) is.columns found.1 in
     let give = subst (λ widths. GiveHigh problem widths placed.heights) same is.placement.rows.kind in
     omega (arith, found.2 placed.heights give, is.placement.height)
@@ -80,7 +79,7 @@ looked-keen problem sound zone height (inr (inr found)) placed is =
 -- the widths at the least positions of a zone that was looked at are known for each part of it
 pub known-part : (problem : ProblemModel) → IsSound problem → (zone part : List Range) (widths : List ℕ) (height : ℕ) →
     ((ws : List ℕ) → InZone problem part ws → InZone problem zone ws) → IsLookedAt problem zone height →
-    AreLeast (gap_of problem.style) (InZone problem zone) widths → IsKnownFor problem part widths height
+    AreLeast problem.spacing.gap (InZone problem zone) widths → IsKnownFor problem part widths height
 known-part problem sound zone part widths height within (inl none) least bound is below =
     absurd (none is.some.0 (within is.some.0 is.some.1))
 known-part problem sound zone part widths height within (inr (inl high)) least bound is below =
@@ -88,14 +87,14 @@ known-part problem sound zone part widths height within (inr (inl high)) least b
     is high.1 in
     absurd (omega (arith, less, high.2, below))
 known-part problem sound zone part widths height within (inr (inr found)) least bound is below =
-    let same = least-unique (gap_of problem.style) (InZone problem zone) found.0 widths
+    let same = least-unique problem.spacing.gap (InZone problem zone) found.0 widths
     (found.1.kind.page.columns ∙ sym least.kind.page.columns) found.1 least in
     subst (λ ws. HasNoLower problem ws height) same found.2
 
 -- a zone with widths has some at its least positions
 pub least-some : (problem : ProblemModel) (zone : List Range) (found : Option (List ℕ)) (bound : ℕ) →
     IsBound problem (InZone problem zone) bound →
-    MatchOption found (HasNoWidths (InZone problem zone)) (AreLeast (gap_of problem.style) (InZone problem zone)) → IsSome found
+    MatchOption found (HasNoWidths (InZone problem zone)) (AreLeast problem.spacing.gap (InZone problem zone)) → IsSome found
 least-some problem zone None bound is none = absurd (none is.some.0 is.some.1)
 least-some problem zone (Some widths) bound is least = refl
 

@@ -11,6 +11,7 @@
 --   z2 cycle
 --   z1 area
 --   z0 @1 fired
+use Rattle.tl_base.specs.Style.{spacing_of}
 use Rattle.std.proofs.Common.{◌≡◌, ℕ, ◌+◌, ◌*◌, ◌<◌, ◌≤◌, ◌⊎◌, zero, suc, List, [], ◌∷◌, inl, inr, length, get_or, Some, refl}
 use Rattle.std.proofs.Common.{sym, ap, subst, arith}
 use Rattle.std.proofs.lemmas.Bool.{cases_lt}
@@ -50,7 +51,7 @@ abbrev cells : List Cell
 cells = cell 0 ∷ cell 1 ∷ []
 
 abbrev problem : ProblemModel
-problem = record { cols = 2; rows = 1; style = Plain; width = 6; cells = cells }
+problem = record { cols = 2; rows = 1; spacing = spacing_of Plain; width = 6; cells = cells }
 
 abbrev trace : List CutAt
 trace = record { zone = 0; span = 0; class = 1 } ∷ []

@@ -1,6 +1,5 @@
 -- A set of widths has one placement at its least positions.
 use Rattle.std.proofs.Common.{◌≡◌, ℕ, List, sym, ◌∙◌}
-use Rattle.tl_base.specs.Style.{gap_of}
 use Rattle.tl_problem.specs.declared.placed.Placed.{Placed}
 use Rattle.tl_problem.specs.Problem.{ProblemModel}
 use Rattle.tl_problem.specs.Placements.{IsPlacementIn}
@@ -12,6 +11,6 @@ module _ (problem : ProblemModel) where
       first ≡ second
   placement_in-unique Among first second one other =
       placement-unique problem first second
-      (least-unique (gap_of problem.style) Among first.widths second.widths
+      (least-unique problem.spacing.gap Among first.widths second.widths
       (one.placement.page.columns ∙ sym other.placement.page.columns) one.columns other.columns)
       one.placement other.placement

@@ -2,7 +2,6 @@
 use Rattle.std.specs.Prelude.{◌≡◌, ℕ, ◌+◌, ◌*◌, ◌<◌, ◌≤◌, ◌⊎◌, List, length, get_or, Option, MatchOption}
 use Rattle.std.specs.List.{All}
 use Rattle.tl_base.specs.declared.limits.TheConstants.{MAX_BUDGET}
-use Rattle.tl_base.specs.Style.{gap_of}
 use Rattle.tl_problem.specs.declared.placed.Placed.{Placed}
 use Rattle.tl_problem.specs.declared.zone.Range.{Range}
 use Rattle.tl_problem.specs.Problem.{ProblemModel}
@@ -35,7 +34,7 @@ abbrev pub IsLookedAt : ProblemModel → List Range → ℕ → Type 0
 IsLookedAt problem zone height =
     HasNoWidths (InZone problem zone)
     ⊎ (((bound : ℕ) × IsBound problem (InZone problem zone) bound × (height ≤ bound))
-    ⊎ ((widths : List ℕ) × AreLeast (gap_of problem.style) (InZone problem zone) widths × HasNoLower problem widths height))
+    ⊎ ((widths : List ℕ) × AreLeast problem.spacing.gap (InZone problem zone) widths × HasNoLower problem widths height))
 
 -- of these widths it is known that no rows are lower under them, if the zone has a bound below the height
 abbrev pub IsKnownFor : ProblemModel → List Range → List ℕ → ℕ → Type 0

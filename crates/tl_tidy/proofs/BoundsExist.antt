@@ -6,7 +6,6 @@ use Rattle.std.specs.List.{All}
 use Rattle.std.proofs.lemmas.Bool.{cases_lt, cases_eq}
 use Rattle.std.proofs.lemmas.List.{length-replicate, get_or-replicate}
 use Rattle.std.proofs.lemmas.List.Elements.{All-nil, All-cons}
-use Rattle.tl_base.specs.Style.{gap_of, row_gap_of, edge_of}
 use Rattle.tl_base.specs.Steps.{AreSteps, first_width, IsLowAt}
 use Rattle.tl_base.specs.Sizes.{room, IsLeastTotal}
 use Rattle.tl_base.proofs.SizeLaws.{room-position, position-mono, position-next, sum-total, sum-range}
@@ -54,7 +53,7 @@ module _ (problem : ProblemModel) where
       ]
 
   page-sum : (widths : List ℕ) → WithinPage problem widths → sum widths ≤ problem.width
-  page-sum widths page = omega (arith, sum-total (gap_of problem.style) (edge_of problem.style) widths, page.page)
+  page-sum widths page = omega (arith, sum-total problem.spacing.gap problem.spacing.edges widths, page.page)
 
   -- some widths are found, or none within the page are of the kind
   tell-widths : (P : List ℕ → Type 0) → ((widths : List ℕ) → Decides (P widths)) →
@@ -70,7 +69,7 @@ module _ (problem : ProblemModel) where
 module _ (problem : ProblemModel) (sound : IsSound problem) (Among : List ℕ → Type 0)
     (decide : (widths : List ℕ) → Decides (Among widths))
     (page : (widths : List ℕ) → Among widths → WithinPage problem widths) (some : List ℕ) (has : Among some) where
-  greatest-upto : (left right n : ℕ) → ((widths : List ℕ) → Among widths → room (gap_of problem.style) widths left right ≤ n) →
+  greatest-upto : (left right n : ℕ) → ((widths : List ℕ) → Among widths → room problem.spacing.gap widths left right ≤ n) →
       (w : ℕ) × IsGreatestRoom problem Among left right w
   greatest-upto left right zero most = (
     0,
@@ -80,19 +79,19 @@ module _ (problem : ProblemModel) (sound : IsSound problem) (Among : List ℕ �
     },
   )
   greatest-upto left right (suc n) most =
-      elim (tell-widths problem (λ widths. Among widths × (room (gap_of problem.style) widths left right ≡ suc n))
-      (λ widths. decide-both (Among widths) (room (gap_of problem.style) widths left right ≡ suc n) (decide widths)
-      (cases_eq (room (gap_of problem.style) widths left right) (suc n)))) [
+      elim (tell-widths problem (λ widths. Among widths × (room problem.spacing.gap widths left right ≡ suc n))
+      (λ widths. decide-both (Among widths) (room problem.spacing.gap widths left right ≡ suc n) (decide widths)
+      (cases_eq (room problem.spacing.gap widths left right) (suc n)))) [
         | inl found ↦ (suc n, record { attained = (found.0, found.1.0, found.1.1); never_more = most })
         | inr none ↦ greatest-upto left right n (λ widths among.
-            elim (cases_lt n (room (gap_of problem.style) widths left right)) [
+            elim (cases_lt n (room problem.spacing.gap widths left right)) [
               | inl more ↦ absurd (none widths (page widths among) (among, omega (arith, more, most widths among)))
               | inr less ↦ less
             ])
       ]
 
   greatest : (left right : ℕ) → (w : ℕ) × IsGreatestRoom problem Among left right w
-  greatest left right = greatest-upto left right (problem.width + gap_of problem.style * (right - left - 1))
+  greatest left right = greatest-upto left right (problem.width + problem.spacing.gap * (right - left - 1))
       (λ widths among. omega (arith, sum-range widths left right, page-sum problem widths (page widths among)))
 
   decide-give : (heights : List ℕ) → Decides (GiveLow problem Among heights)
@@ -166,7 +165,7 @@ module _ (problem : ProblemModel) (sound : IsSound problem) (Among : List ℕ �
               let wide = (page one.0 one.1).cells k d within in
               let count = length-replicate problem.rows tall.0 in
               let here = get_or-replicate problem.rows cell.top tall.0 0 (omega (arith, good.rows.0, good.rows.1)) in
-              let fits = room-first (row_gap_of problem.style) (replicate problem.rows tall.0) cell.top cell.bottom good.rows.0
+              let fits = room-first problem.spacing.row_gap (replicate problem.rows tall.0) cell.top cell.bottom good.rows.0
               (omega (arith, good.rows.1, count)) in
               IsLowAt-higher cell.low tall.0 (cell_height problem (replicate problem.rows tall.0) cell) w
               (omega (arith, here, fits))
@@ -176,7 +175,7 @@ module _ (problem : ProblemModel) (sound : IsSound problem) (Among : List ℕ �
       )
 
   least-upto : (n : ℕ) (heights : List ℕ) → GiveLow problem Among heights → total_height problem heights ≤ n →
-      (bound : ℕ) × IsLeastTotal (row_gap_of problem.style) (edge_of problem.style) (GiveLow problem Among) bound
+      (bound : ℕ) × IsLeastTotal problem.spacing.row_gap problem.spacing.lines (GiveLow problem Among) bound
   least-upto zero heights give low = (
     0,
     record {
@@ -205,7 +204,7 @@ module _ (problem : ProblemModel) (sound : IsSound problem) (Among : List ℕ �
             elim (cases_lt n (total_height problem other)) [
               | inl more ↦ omega (arith, more)
               | inr less ↦ absurd (none other also.rows
-                  (omega (arith, less, sum-total (row_gap_of problem.style) (edge_of problem.style) other)) (also, less))
+                  (omega (arith, less, sum-total problem.spacing.row_gap problem.spacing.lines other)) (also, less))
             ]
 
   pub bound-exists : (bound : ℕ) × IsBound problem Among bound
@@ -254,7 +253,7 @@ module _ (problem : ProblemModel) (height : ℕ) where
       (decide-give_heights widths heights) (decide-le (total_height problem heights) height)) height problem.rows) [
         | inl found ↦ inl found
         | inr none ↦ inr (λ low. none low.0 low.1.0.rows
-            (omega (arith, low.1.1, sum-total (row_gap_of problem.style) (edge_of problem.style) low.0)) low.1)
+            (omega (arith, low.1.1, sum-total problem.spacing.row_gap problem.spacing.lines low.0)) low.1)
       ]
 
   -- it can be told whether a zone holds a layout that is low enough

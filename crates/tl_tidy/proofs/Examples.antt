@@ -10,6 +10,8 @@
 -- part has the first page alone, which is too high, and the upper part the chosen one. So two cuts are needed.
 --
 -- And a cell in a frame, whose steps differ where the frame is alone.
+use Rattle.tl_base.proofs.SizeLaws.{spacing-sound}
+use Rattle.tl_base.specs.Style.{spacing_of}
 use Rattle.std.proofs.Common.{◌≡◌, ℕ, ◌+◌, ◌<◌, ◌≤◌, zero, suc, List, [], ◌∷◌, ◌⊎◌, inl, inr, length, get_or, refl, subst, arith}
 use Rattle.std.specs.List.{AllPairs, Any}
 use Rattle.std.proofs.lemmas.List.Elements.{All-from_recursion}
@@ -52,7 +54,7 @@ abbrev problem : ProblemModel
 problem = record {
   cols = 2;
   rows = 2;
-  style = Plain;
+  spacing = spacing_of Plain;
   width = 6;
   cells = cell 0 0 long ∷ cell 1 0 short ∷ cell 0 1 short ∷ cell 1 1 long ∷ [];
 }
@@ -118,6 +120,7 @@ within first second some more page = record {
 sound : IsSound problem
 unfolding Apart
 sound = record {
+  spaced = spacing-sound Plain;
   few_columns = omega arith;
   few_rows = omega arith;
   narrow = omega arith;
@@ -274,7 +277,7 @@ framed_cell = record {
 }
 
 abbrev framed : ProblemModel
-framed = record { cols = 1; rows = 1; style = Frame; width = 6; cells = framed_cell ∷ [] }
+framed = record { cols = 1; rows = 1; spacing = spacing_of Frame; width = 6; cells = framed_cell ∷ [] }
 
 -- so it needs the same by both in any room
 same_in_rooms : LowIsHigh framed

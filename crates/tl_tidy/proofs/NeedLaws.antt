@@ -3,7 +3,6 @@
 use Rattle.std.proofs.Common.{◌≡◌, ℕ, ◌+◌, ◌-◌, ◌^◌, ◌<◌, ◌≤◌, zero, suc, List, [], ◌∷◌, ◌⊎◌, inl, inr, length, get_or}
 use Rattle.std.proofs.Common.{refl, sym, ◌∙◌, subst, arith}
 use Rattle.std.proofs.lemmas.Bool.{cases_lt, cases_eq}
-use Rattle.tl_base.specs.Style.{gap_of}
 use Rattle.tl_problem.specs.declared.placed.Placed.{Placed}
 use Rattle.tl_problem.specs.declared.zone.Range.{Range}
 use Rattle.tl_problem.specs.Problem.{ProblemModel}
@@ -204,9 +203,9 @@ chosen-unique problem height placed other one two =
         | inr after ↦ absurd (before-once one.vector two.vector before after)
       ]
     ] in
-    let least = subst (λ vector. AreLeast (gap_of problem.style) (InZone problem (zone_of_vector vector)) one.widths)
+    let least = subst (λ vector. AreLeast problem.spacing.gap (InZone problem (zone_of_vector vector)) one.widths)
     vectors one.least in
-    let widths : one.widths ≡ two.widths = least-unique (gap_of problem.style) (InZone problem (zone_of_vector two.vector))
+    let widths : one.widths ≡ two.widths = least-unique problem.spacing.gap (InZone problem (zone_of_vector two.vector))
     one.widths two.widths
     (least.kind.page.columns ∙ sym two.least.kind.page.columns) least two.least in
     tight-unique problem two.widths placed other (subst (λ w. IsTightFrom problem w placed) widths one.tight) two.tight

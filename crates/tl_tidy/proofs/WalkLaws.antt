@@ -1,7 +1,6 @@
 -- What is so of the zones that are left is so of the whole, from the start of the walk to its end.
 use Rattle.std.proofs.Common.{◌≡◌, ℕ, ◌+◌, ◌≤◌, List, [], ◌∷◌, ◌++◌, inl, inr, length, reverse, refl, sym, ap, ◌∙◌, subst, arith}
 use Rattle.std.proofs.lemmas.List.{reverse-append}
-use Rattle.tl_base.specs.Style.{gap_of}
 use Rattle.tl_problem.specs.declared.placed.Placed.{Placed}
 use Rattle.tl_problem.specs.declared.zone.Range.{Range}
 use Rattle.tl_problem.specs.Problem.{ProblemModel}
@@ -191,7 +190,7 @@ module _ (problem : ProblemModel) (sound : IsSound problem) (height : ℕ) where
               first = λ other low. first.first other (whole-vector problem other low.vectors) low;
             };
             widths = is.widths;
-            least = subst (λ z. AreLeast (gap_of problem.style) (InZone problem z) is.widths) (sym (firsts-zone zone one)) is.least;
+            least = subst (λ z. AreLeast problem.spacing.gap (InZone problem z) is.widths) (sym (firsts-zone zone one)) is.least;
             tight = is.tight;
           }
 

@@ -1,7 +1,6 @@
 -- The choice among the layouts that are low enough: the least class vector of one, read as words are in a dictionary, and
 -- the tight placement of its least positions. So the choice depends on the problem and the height alone.
 use Rattle.std.specs.Prelude.{◌≡◌, ℕ, ◌<◌, ◌≤◌, ◌⊎◌, List, map, get_or}
-use Rattle.tl_base.specs.Style.{gap_of}
 use Rattle.tl_problem.specs.declared.placed.Placed.{Placed}
 use Rattle.tl_problem.specs.declared.zone.Range.{Range}
 use Rattle.tl_problem.specs.Problem.{ProblemModel, total_height}
@@ -43,5 +42,5 @@ pub record IsChosen (problem : ProblemModel) (height : ℕ) (placed : Placed) : 
   pub vector : List ℕ
   pub chosen : IsChosenVector problem height vector
   pub widths : List ℕ
-  pub least : AreLeast (gap_of problem.style) (InZone problem (zone_of_vector vector)) widths
+  pub least : AreLeast problem.spacing.gap (InZone problem (zone_of_vector vector)) widths
   pub tight : IsTightFrom problem widths placed

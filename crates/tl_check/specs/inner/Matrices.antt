@@ -4,7 +4,6 @@ use Rattle.tl_diff.specs.Bounds.{Bounds}
 use Rattle.tl_diff.specs.Marks.{MarkedBounds}
 use Rattle.tl_problem.specs.declared.zone.Range.{Range}
 use Rattle.tl_problem.specs.Problem.{ProblemModel}
-use Rattle.tl_problem.specs.Sound.{IsSound}
 use Rattle.tl_problem.specs.Works as works
 use Rattle.tl_problem.specs.Zones.{InZone}
 use Rattle.tl_cert.specs.declared.log.Bound.{Bound}

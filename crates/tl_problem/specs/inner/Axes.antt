@@ -2,7 +2,6 @@
 use Rattle.std.specs.Prelude.{◌≡◌, ℕ, ◌+◌, List, [], ◌∷◌}
 use Rattle.std.specs.List.{All, Contains}
 use Rattle.std.specs.List.Sorted.{IsPermutation, IsNonDecreasingBy}
-use Rattle.tl_base.specs.Style.{gap_of, row_gap_of}
 use Rattle.tl_problem.specs.declared.axis.Axis.{Axis}
 use Rattle.tl_problem.specs.declared.axis.Axis.TheVariants.{Columns, Rows}
 use Rattle.tl_problem.specs.declared.axis.Turn.{Turn}
@@ -26,8 +25,8 @@ count_on Rows problem = problem.rows
 
 -- the gap between two columns, or rows, of a problem
 abbrev pub gap_on : Axis → ProblemModel → ℕ
-gap_on Columns problem = gap_of problem.style
-gap_on Rows problem = row_gap_of problem.style
+gap_on Columns problem = problem.spacing.gap
+gap_on Rows problem = problem.spacing.row_gap
 
 -- a cell by its number, with the place where it begins
 abbrev pub turn : ℕ → ℕ → Turn

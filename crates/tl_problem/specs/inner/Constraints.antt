@@ -1,6 +1,5 @@
 -- Constraints of the page, one after another; no public clause cites this file.
 use Rattle.std.specs.Prelude.{◌≡◌, ℕ, ◌+◌, ◌<◌, ℤ, pos, ◌+ℤ◌, ◌≤ℤ◌, List, [], length}
-use Rattle.tl_base.specs.Style.{gap_of}
 use Rattle.tl_diff.specs.Bounds.{Satisfies}
 use Rattle.tl_diff.specs.Marks.{MarkedBounds}
 use Rattle.tl_problem.specs.Problem.{ProblemModel}
@@ -26,9 +25,9 @@ pub record PageUpto (problem : ProblemModel) (columns spans : ℕ) (matrix : Mar
   pub marks : matrix.marks ≡ 4
   pub none_held : matrix.held ≡ []
   pub whole : (widths : List ℕ) → WithinPage problem widths → AreAllowed problem matrix.bounds widths
-  pub gaps : (x : ℕ → ℤ) → Satisfies matrix.bounds x → (k : ℕ) → k < columns → StandApart x k (k + 1) (gap_of problem.style)
+  pub gaps : (x : ℕ → ℤ) → Satisfies matrix.bounds x → (k : ℕ) → k < columns → StandApart x k (k + 1) problem.spacing.gap
   pub rooms : (x : ℕ → ℤ) → Satisfies matrix.bounds x → (s : ℕ) → s < spans →
-      StandApart x (span_at problem s).left (span_at problem s).right (first_in_class problem s 0 + gap_of problem.style)
+      StandApart x (span_at problem s).left (span_at problem s).right (first_in_class problem s 0 + problem.spacing.gap)
 
 -- the matrix with one fact more: the marks stay as they are
 pub record AddsFact (old new : MarkedBounds) (Fact : (ℕ → ℤ) → Type 0) : Type 0 where
@@ -42,12 +41,12 @@ pub record AddsFact (old new : MarkedBounds) (Fact : (ℕ → ℤ) → Type 0) :
 -- the room of the span is at least the first width of its first class
 abbrev pub HasFirst : ProblemModel → List Range → ℕ → (ℕ → ℤ) → Type 0
 HasFirst problem zone s x = StandApart x (span_at problem s).left (span_at problem s).right
-    (first_in_class problem s (range_at zone s).first + gap_of problem.style)
+    (first_in_class problem s (range_at zone s).first + problem.spacing.gap)
 
 -- the room of the span is at most the last width of its last class
 abbrev pub HasLast : ProblemModel → List Range → ℕ → (ℕ → ℤ) → Type 0
 HasLast problem zone s x = AreNear x (span_at problem s).left (span_at problem s).right
-    (last_in_class problem s (range_at zone s).last + gap_of problem.style)
+    (last_in_class problem s (range_at zone s).last + problem.spacing.gap)
 
 -- the matrix with the ranges of the first spans of a zone; where they were not added whole, no widths are left
 pub record AddsRanges (problem : ProblemModel) (zone : List Range) (upto : ℕ) (old new : MarkedBounds)

@@ -1,7 +1,6 @@
 -- What the cells need of rows and columns, by number; no public clause cites this file.
 use Rattle.std.specs.Prelude.{◌≡◌, ℕ, ◌<◌, ◌≤◌, Some, List, length, get_or}
 use Rattle.tl_base.specs.Steps.{first_width, height_at, IsLeastWidthFor}
-use Rattle.tl_base.specs.Style.{gap_of}
 use Rattle.tl_base.specs.Sizes.{room}
 use Rattle.tl_problem.specs.Problem.{ProblemModel, cell_width}
 use Rattle.tl_problem.specs.Bounds.{IsGreatestRoom}
@@ -35,5 +34,5 @@ pub record NeedLeast (problem : ProblemModel) (demands : List ℕ) : Type 0 wher
 
 -- `w` is the least room that any of the widths give the span of columns
 pub record IsLeastRoom (problem : ProblemModel) (Among : List ℕ → Type 0) (left right w : ℕ) : Type 0 where
-  pub attained : (widths : List ℕ) × Among widths × (room (gap_of problem.style) widths left right ≡ w)
-  pub never_less : (widths : List ℕ) → Among widths → w ≤ room (gap_of problem.style) widths left right
+  pub attained : (widths : List ℕ) × Among widths × (room problem.spacing.gap widths left right ≡ w)
+  pub never_less : (widths : List ℕ) → Among widths → w ≤ room problem.spacing.gap widths left right

@@ -1,8 +1,9 @@
 -- What the parts of the test for a sound problem find; no public clause cites this file.
+use Rattle.tl_base.specs.Style.{spacing_of}
 use Rattle.std.specs.Prelude.{◌≡◌, ℕ, ◌+◌, ◌*◌, ◌<◌, ◌≤◌, ◌⊎◌, List, [], length, get_or, Option, Some, None}
 use Rattle.std.specs.List.{AllPairs, Any}
 use Rattle.std.specs.Option.{IsSomeAnd}
-use Rattle.tl_base.specs.declared.style.Style.{Style}
+use Rattle.tl_base.specs.declared.spacing.Spacing.{Spacing}
 use Rattle.tl_base.specs.declared.style.Style.TheVariants.{Plain}
 use Rattle.tl_base.specs.declared.steps.Config.{Config}
 use Rattle.tl_base.specs.Steps.{first_width, IsLowAt}
@@ -18,7 +19,7 @@ use Rattle.tl_problem.specs.inner.Spanning.{slot_of}
 
 -- so many columns and rows, with no cells and no page: what a cell alone is tested against
 abbrev pub grid : ℕ → ℕ → ProblemModel
-grid cols rows = record { cols = cols; rows = rows; style = Plain; width = 0; cells = [] }
+grid cols rows = record { cols = cols; rows = rows; spacing = spacing_of Plain; width = 0; cells = [] }
 
 -- where no more than `h` lines are needed by `high`, no more are needed by `low`
 abbrev pub IsNowhereAbove : List Config → List Config → Type 0
@@ -46,10 +47,10 @@ BeginsNowhere axis place cells first past = (k : ℕ) → first ≤ k → k < pa
 abbrev pub EachBegins : Axis → ℕ → List Cell → Type 0
 EachBegins axis count cells = (place : ℕ) → place < count → Any (λ cell. start_of axis cell ≡ place) cells
 
--- some widths of so many columns are within a page of this style and width
-abbrev pub FitsPageWidth : ℕ → Style → ℕ → List Cell → Type 0
-FitsPageWidth cols style width cells = (widths : List ℕ)
-    × WithinPage (record { cols = cols; rows = 0; style = style; width = width; cells = cells }) widths
+-- some widths of so many columns are within a page of this spacing and width
+abbrev pub FitsPageWidth : ℕ → Spacing → ℕ → List Cell → Type 0
+FitsPageWidth cols spacing width cells = (widths : List ℕ)
+    × WithinPage (record { cols = cols; rows = 0; spacing = spacing; width = width; cells = cells }) widths
 
 -- the column begins at or past this place: past the gap of the column before it, and past each cell that ends there
 abbrev pub IsPastRoom : ℕ → List ℕ → Cell → ℕ → Type 0

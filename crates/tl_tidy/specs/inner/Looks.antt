@@ -4,7 +4,6 @@ use Rattle.tl_problem.specs.declared.placed.Placed.{Placed}
 use Rattle.tl_problem.specs.declared.zone.Range.{Range}
 use Rattle.tl_base.specs.declared.steps.Config.{Config}
 use Rattle.tl_base.specs.Steps.{height_at}
-use Rattle.tl_base.specs.Style.{gap_of}
 use Rattle.tl_problem.specs.Problem.{ProblemModel}
 use Rattle.tl_problem.specs.Zones.{InZone, IsFirstOpen}
 use Rattle.tl_problem.specs.Agreement.{HasOneClass}
@@ -23,7 +22,7 @@ LooksAs problem height zone (Cut span) = HasLowBound problem height zone × IsFi
 -- the placement of the zone's least positions, made tight
 pub record IsTightIn (problem : ProblemModel) (zone : List Range) (placed : Placed) : Type 0 where
   pub widths : List ℕ
-  pub least : AreLeast (gap_of problem.style) (InZone problem zone) widths
+  pub least : AreLeast problem.spacing.gap (InZone problem zone) widths
   pub tight : IsTightFrom problem widths placed
 
 -- both have the same height at the width at which a step begins, if that is at most `most`

@@ -18,7 +18,7 @@ overflow_add-result-2 c =
     let inner : length c.args.sizes.now - 1 ≤ MAX_ROWS = omega (arith, c.requires.few) in
     let gap : c.from.result ≤ 2 = omega (arith, c.from.ensures, c.requires.gap) in
     let gaps = mul-le-mul gap inner in
-    omega (arith, gaps, c.sum_of.ensures.small, c.from-2.ensures, c.requires.few, c.requires.edge)
+    omega (arith, gaps, c.sum_of.ensures.small, c.from-2.ensures, c.requires.few, c.requires.edges)
 
 pub returns-clause-total : goal.returns-clause-total
 returns-clause-total c =
@@ -29,11 +29,11 @@ returns-clause-total c =
           c.is_empty.ensures ∙
           c.if-is_empty.false in cc)
     ] in
-    rw (c.sum_of.ensures.sum, c.from.ensures, c.from-2.ensures) (sym (total-sum c.args.gap c.args.edge c.args.sizes.now some))
+    rw (c.sum_of.ensures.sum, c.from.ensures, c.from-2.ensures) (sym (total-sum c.args.gap c.args.edges c.args.sizes.now some))
 
 pub returns-clause-small : goal.returns-clause-small
 returns-clause-small c =
     let inner : length c.args.sizes.now - 1 ≤ MAX_ROWS = omega (arith, c.requires.few) in
     let gap : c.from.result ≤ 2 = omega (arith, c.from.ensures, c.requires.gap) in
     let gaps = mul-le-mul gap inner in
-    omega (arith, gaps, c.sum_of.ensures.small, c.from-2.ensures, c.requires.few, c.requires.edge)
+    omega (arith, gaps, c.sum_of.ensures.small, c.from-2.ensures, c.requires.few, c.requires.edges)

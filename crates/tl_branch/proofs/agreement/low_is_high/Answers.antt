@@ -1,6 +1,6 @@
 -- All cells agree, at all widths that the page has room for.
+use Rattle.tl_base.specs.declared.spacing.Spacing.{Spacing}
 use Rattle.std.proofs.Common.{◌≡◌, ◌<◌, ◌≤◌, List, length, get_or, refl, sym, ap, subst, arith}
-use Rattle.tl_base.specs.Style.{edge_of}
 use Rattle.tl_base.specs.Steps.{height_at}
 use Rattle.tl_problem.specs.declared.cell.Cell.{Cell}
 use Rattle.tl_branch.proofs.agreement.low_is_high.Goals as goal
@@ -17,8 +17,7 @@ returns c = (
         within,
         c.saturating_sub-room.ensures,
         c.width.ensures,
-        c.edge.ensures,
-        ap edge_of c.style.ensures,
+        ap (λ (s : Spacing). s.edges) c.spacing.ensures.spacing,
       ) in
       subst (λ (x : Cell). height_at x.low w ≡ height_at x.high w) item (c.loop-number.invariant has.0 cell inside w room),
   λ _. refl,

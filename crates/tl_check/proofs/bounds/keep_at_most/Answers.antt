@@ -5,7 +5,6 @@ use Rattle.std.specs.Int.{w32}
 use mir.Val.{to_z, of_z}
 use Rattle.std.proofs.lemmas.Int.{ints}
 use Rattle.tl_problem.proofs.ZoneLaws.{span-within}
-use Rattle.tl_base.specs.Style.{gap_of}
 use Rattle.tl_problem.specs.Zones.{span_width}
 use Rattle.tl_check.specs.inner.Matrices.{Restricts}
 use Rattle.tl_check.proofs.Leaving.{Restricts-none, Restricts-most}
@@ -27,7 +26,7 @@ returns-then-holds c =
     let raw = to_z w32 (of_z w32 c.args.apart) in
     let m : raw ≡ c.args.apart = omega (arith, ints, c.requires.low, c.requires.high) in
     subst (λ t. Restricts p c.args.matrix.now c.bound.new.self
-    (λ widths. pos (span_width p widths c.args.s + gap_of p.style) ≤ℤ t)) m
+    (λ widths. pos (span_width p widths c.args.s + p.spacing.gap) ≤ℤ t)) m
     (Restricts-most p c.args.matrix.now c.bound.new.self c.requires.keeps c.bound.ensures.rest c.args.s c.requires.span raw
     (rw c.spans.ensures.spans at c.bound.ensures.adds))
 

@@ -1,5 +1,5 @@
 -- Span by span, the bound from above before the one from below.
-use Rattle.std.proofs.Common.{◌≡◌, ◌++◌, List, sym, ap, ◌∙◌, subst, append_assoc, arith}
+use Rattle.std.proofs.Common.{◌≡◌, ◌++◌, sym, ap, ◌∙◌, append_assoc, arith}
 use Rattle.tl_problem.specs.Zones.{range_at}
 use Rattle.tl_cert.specs.Nogoods.{range_bounds}
 use Rattle.tl_cert.specs.Traces.{zone_of}

@@ -1,5 +1,5 @@
 -- The bounds of a span are the one from above and the one from below.
-use Rattle.std.proofs.Common.{◌≡◌, ◌++◌, List, [], ap, ◌∙◌, subst, append_assoc}
+use Rattle.std.proofs.Common.{◌++◌, List, [], ap, ◌∙◌, subst, append_assoc}
 use Rattle.tl_cert.specs.declared.log.Bound.{Bound}
 use Rattle.tl_check.specs.Matrices.{Describes}
 use Rattle.tl_check.specs.inner.Matrices.{some_list}

@@ -1,8 +1,8 @@
 -- A span more.
-use Rattle.std.proofs.Common.{◌≡◌, ◌<◌, ◌++◌, List, [], length, get_or, sym, ap, ◌∙◌, subst, arith}
+use Rattle.std.proofs.Common.{◌<◌, ◌++◌, List, [], length, get_or, sym, ap, ◌∙◌, subst, arith}
 use Rattle.std.proofs.lemmas.List.{get_or_default}
 use Rattle.tl_problem.specs.declared.zone.Range.{Range}
-use Rattle.tl_problem.specs.Zones.{range, range_at}
+use Rattle.tl_problem.specs.Zones.{range}
 use Rattle.tl_cert.specs.Nogoods.{range_bounds}
 use Rattle.tl_cert.specs.declared.log.Bound.{Bound}
 use Rattle.tl_check.specs.Matrices.{Describes}

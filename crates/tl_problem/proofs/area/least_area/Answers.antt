@@ -28,9 +28,7 @@ returns c =
     (rw (
       c.configs.ensures.configs,
       c.area_at-start.ensures,
-      c.gap-gap.ensures,
-      c.style.ensures,
-      c.row_gap-row_gap.ensures,
-      c.style-2.ensures,
+      c.spacing-gap.ensures.spacing,
+      c.spacing-row_gap.ensures.spacing,
     ) at
     c.least_step.ensures)

@@ -1,5 +1,4 @@
 -- The least height for what the cells need is the bound.
-use Rattle.tl_base.specs.Style.{row_gap_of, edge_of}
 use Rattle.tl_problem.specs.declared.axis.Axis.TheVariants.{Rows}
 use Rattle.tl_problem.specs.Bounds.{GiveLow}
 use Rattle.tl_problem.specs.Works.{AreAllowed}
@@ -21,7 +20,7 @@ returns c =
     let demands = c.fill_low.new.demands in
     record {
       some = left-some p c.args.matrix.now.bounds c.requires.keeps c.requires.some;
-      least = IsLeastTotal-same (row_gap_of p.style) (edge_of p.style) (GiveDemands p Rows demands) (GiveLow p Among)
+      least = IsLeastTotal-same p.spacing.row_gap p.spacing.lines (GiveDemands p Rows demands) (GiveLow p Among)
           c.least_height.result
           (low-give p c.fill_low.ensures.sound Among demands c.fill_low.ensures.low)
           (give-low p c.fill_low.ensures.sound Among demands c.fill_low.ensures.low) c.least_height.ensures;

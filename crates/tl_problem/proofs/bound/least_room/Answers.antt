@@ -5,7 +5,7 @@ use mir.Val.{to_z, of_z}
 use Rattle.std.proofs.lemmas.Int.{ints}
 use Rattle.tl_diff.proofs.BoundLaws.{IsSome-greatest}
 use Rattle.tl_problem.proofs.WorkLemmas.{least-room}
-use Rattle.tl_problem.proofs.ConstraintLemmas.{least-some, least-small, gap-few}
+use Rattle.tl_problem.proofs.ConstraintLemmas.{least-some, least-small}
 use Rattle.tl_problem.proofs.bound.least_room.Goals as goal
 
 pub unwrap-apart-requires : goal.unwrap-apart-requires
@@ -25,7 +25,7 @@ overflow_cast-result c =
     c.unwrap-apart.result (rw c.unwrap-apart.ensures at c.upper.ensures.exact) in
     let small = least-small p c.requires.sound c.args.matrix.now.bounds c.requires.keeps left right c.requires.cell.columns.0
     c.requires.cell.columns.1 found.0 found.1.1 in
-    let few = gap-few p.style in
+    let few = c.requires.sound.spaced.near in
     let m : to_z w32 (of_z w32 (pos 0 -ℤ to_z w32 (of_z w32 c.unwrap-apart.result))) ≡ pos (found.0 + c.args.gap) = omega
     (arith, ints, found.1.0, small, few, c.requires.gap) in
     rw m (tt, omega (arith, small, few, c.requires.gap))
@@ -40,7 +40,7 @@ overflow_sub-result c =
     c.unwrap-apart.result (rw c.unwrap-apart.ensures at c.upper.ensures.exact) in
     let small = least-small p c.requires.sound c.args.matrix.now.bounds c.requires.keeps left right c.requires.cell.columns.0
     c.requires.cell.columns.1 found.0 found.1.1 in
-    let few = gap-few p.style in
+    let few = c.requires.sound.spaced.near in
     let m : to_z w32 (of_z w32 (pos 0 -ℤ to_z w32 (of_z w32 c.unwrap-apart.result))) ≡ pos (found.0 + c.args.gap) = omega
     (arith, ints, found.1.0, small, few, c.requires.gap) in
     rw m (omega arith)
@@ -55,7 +55,7 @@ returns-clause-room c =
     c.unwrap-apart.result (rw c.unwrap-apart.ensures at c.upper.ensures.exact) in
     let small = least-small p c.requires.sound c.args.matrix.now.bounds c.requires.keeps left right c.requires.cell.columns.0
     c.requires.cell.columns.1 found.0 found.1.1 in
-    let few = gap-few p.style in
+    let few = c.requires.sound.spaced.near in
     let m : to_z w32 (of_z w32 (pos 0 -ℤ to_z w32 (of_z w32 c.unwrap-apart.result))) ≡ pos (found.0 + c.args.gap) = omega
     (arith, ints, found.1.0, small, few, c.requires.gap) in
     let is : found.0 + c.args.gap - c.args.gap ≡ found.0 = omega arith in
@@ -71,7 +71,7 @@ returns-clause-small c =
     c.unwrap-apart.result (rw c.unwrap-apart.ensures at c.upper.ensures.exact) in
     let small = least-small p c.requires.sound c.args.matrix.now.bounds c.requires.keeps left right c.requires.cell.columns.0
     c.requires.cell.columns.1 found.0 found.1.1 in
-    let few = gap-few p.style in
+    let few = c.requires.sound.spaced.near in
     let m : to_z w32 (of_z w32 (pos 0 -ℤ to_z w32 (of_z w32 c.unwrap-apart.result))) ≡ pos (found.0 + c.args.gap) = omega
     (arith, ints, found.1.0, small, few, c.requires.gap) in
     rw m (omega (arith, small))

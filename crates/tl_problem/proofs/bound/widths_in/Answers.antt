@@ -1,6 +1,5 @@
 -- The least assignment gives the widths at the least places.
 use Rattle.std.proofs.Common.{sym, subst, ◌∙◌}
-use Rattle.tl_base.specs.Style.{gap_of}
 use Rattle.tl_diff.specs.Bounds.{assignment_of}
 use Rattle.tl_problem.specs.Placements.{AreLeast}
 use Rattle.tl_problem.specs.Works.{AreAllowed}
@@ -23,7 +22,7 @@ widths_between-requires-clause-rising c = λ k below. c.requires.keeps.gaps (ass
 
 pub returns : goal.returns
 returns c =
-    subst (AreLeast (gap_of c.args.problem.now.style) (AreAllowed c.args.problem.now c.args.matrix.now.bounds))
+    subst (AreLeast c.args.problem.now.spacing.gap (AreAllowed c.args.problem.now c.args.matrix.now.bounds))
     (sym c.in_ok-widths.ensures)
     (least-left c.args.problem.now c.args.matrix.now.bounds c.requires.keeps (assignment_of c.solve_least.new.out)
     c.solve_least.ensures)

@@ -1,6 +1,5 @@
 -- The zone's ranges leave exactly the widths in the zone.
 use Rattle.std.proofs.Common.{ℕ, List}
-use Rattle.tl_base.specs.Style.{gap_of}
 use Rattle.tl_problem.specs.Zones.{InZone}
 use Rattle.tl_problem.specs.Works.{AreAllowed, places}
 use Rattle.tl_problem.proofs.NeedLemmas.{AreLeast-same}
@@ -44,5 +43,5 @@ returns-clause-outline c =
     let is = c.in_ok-outline.ensures in
     record {
       bound = bound-same p Left (InZone p zone) there back c.in_ok-outline.outline.bound is.bound;
-      widths = AreLeast-same (gap_of p.style) Left (InZone p zone) c.in_ok-outline.outline.widths there back is.widths;
+      widths = AreLeast-same p.spacing.gap Left (InZone p zone) c.in_ok-outline.outline.widths there back is.widths;
     }

@@ -1,5 +1,4 @@
 -- The zone's ranges leave exactly the widths in the zone.
-use Rattle.tl_base.specs.Style.{gap_of}
 use Rattle.tl_problem.specs.Zones.{InZone}
 use Rattle.tl_problem.specs.Works.{AreAllowed, places}
 use Rattle.tl_problem.proofs.NeedLemmas.{AreLeast-same}
@@ -32,7 +31,7 @@ pub returns-clause-widths : goal.returns-clause-widths
 returns-clause-widths c =
     let p = c.args.problem.now in
     let zone = c.args.zone.now in
-    AreLeast-same (gap_of p.style) (AreAllowed p c.add_ranges.new.matrix.bounds) (InZone p zone) c.in_ok-widths.widths
+    AreLeast-same p.spacing.gap (AreAllowed p c.add_ranges.new.matrix.bounds) (InZone p zone) c.in_ok-widths.widths
     (ranges-zone p zone _ _ c.args.matrix.now.bounds c.add_ranges.new.matrix c.add_ranges.result c.add_ranges.ensures.adds
     c.if-not-add_ranges.false
     c.requires.keeps)

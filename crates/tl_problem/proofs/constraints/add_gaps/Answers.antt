@@ -18,4 +18,4 @@ loop-column-preserved c =
     PageUpto-gap c.args.problem.now c.loop-column.column c.loop-column.matrix c.keep_apart.new.matrix
     (length (spans_of c.args.problem.now)) (omega (arith, c.cols-column-end.ensures))
     c.loop-column.invariant
-    (rw (c.gap-gap.ensures, c.style.ensures) at c.keep_apart.ensures.adds)
+    (rw (c.spacing-gap.ensures.spacing) at c.keep_apart.ensures.adds)

@@ -1,11 +1,11 @@
 -- The first class of a span is kept by the page; any other begins within it.
+use Rattle.tl_base.specs.declared.spacing.Spacing.{Spacing}
 use Rattle.std.proofs.Common.{◌<◌, length, arith, ap}
-use Rattle.tl_base.specs.Style.{gap_of}
 use Rattle.tl_problem.specs.Spans.{spans_of}
 use Rattle.tl_problem.specs.Zones.{range_at}
 use Rattle.tl_problem.specs.inner.Constraints.{HasFirst}
 use Rattle.tl_problem.proofs.ZoneLaws.{span-within}
-use Rattle.tl_problem.proofs.ConstraintLemmas.{AddsFact-none, first-kept, class-small, gap-few}
+use Rattle.tl_problem.proofs.ConstraintLemmas.{AddsFact-none, first-kept, class-small}
 use Rattle.tl_problem.proofs.constraints.keep_first.Goals as goal
 
 pub returns-then-first-eq0-clause-adds : goal.returns-then-first-eq0-clause-adds
@@ -22,7 +22,7 @@ overflow_add-classes c =
     let small = class-small c.args.problem.now c.spans.ensures.sound c.args.s (range_at c.args.zone.now c.args.s).first inside
     (omega (arith, in_range.0, in_range.1)) in
     rw (c.class_list-classes.ensures, c.ranges-2.ensures) (omega
-    (arith, small, c.gap.ensures, ap gap_of c.style.ensures, gap-few c.args.problem.now.style))
+    (arith, small, ap (λ (s : Spacing). s.gap) c.spacing.ensures.spacing, c.spacing.ensures.sound.near))
 
 pub keep_apart-requires-clause-begins : goal.keep_apart-requires-clause-begins
 keep_apart-requires-clause-begins c =
@@ -43,14 +43,13 @@ keep_apart-requires-clause-small c =
     let small = class-small c.args.problem.now c.spans.ensures.sound c.args.s (range_at c.args.zone.now c.args.s).first inside
     (omega (arith, in_range.0, in_range.1)) in
     rw (c.class_list-classes.ensures, c.ranges-2.ensures) (omega
-    (arith, small, c.gap.ensures, ap gap_of c.style.ensures, gap-few c.args.problem.now.style))
+    (arith, small, ap (λ (s : Spacing). s.gap) c.spacing.ensures.spacing, c.spacing.ensures.sound.near))
 
 pub returns-clause-adds : goal.returns-clause-adds
 returns-clause-adds c = rw (
   c.spans.ensures.spans,
   c.class_list-classes.ensures,
   c.ranges-2.ensures,
-  c.gap.ensures,
-  c.style.ensures,
+  c.spacing.ensures.spacing,
 ) at
     c.keep_apart.ensures.adds

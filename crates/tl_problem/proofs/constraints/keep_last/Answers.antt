@@ -1,13 +1,13 @@
 -- The last class of a span ends with the page; any other ends before the next begins.
+use Rattle.tl_base.specs.declared.spacing.Spacing.{Spacing}
 use Rattle.std.proofs.Common.{◌+◌, ◌<◌, length, arith, ap}
 use Rattle.std.proofs.lemmas.List.{get_or_default}
-use Rattle.tl_base.specs.Style.{gap_of}
 use Rattle.tl_problem.specs.Spans.{spans_of, page_room}
 use Rattle.tl_problem.specs.Zones.{span_at, range_at, classes_at}
 use Rattle.tl_problem.specs.inner.Constraints.{HasLast}
 use Rattle.tl_problem.proofs.SpanLaws.{classes-rising}
 use Rattle.tl_problem.proofs.ZoneLaws.{span-within}
-use Rattle.tl_problem.proofs.ConstraintLemmas.{AddsFact-none, last-kept, class-small, gap-few}
+use Rattle.tl_problem.proofs.ConstraintLemmas.{AddsFact-none, last-kept, class-small}
 use Rattle.tl_problem.proofs.constraints.keep_last.Goals as goal
 
 pub returns-then-next-classes-clause-adds : goal.returns-then-next-classes-clause-adds
@@ -37,7 +37,7 @@ overflow_add-classes c =
     let more : (range_at c.args.zone.now c.args.s).last + 1 < length (classes_at p c.args.s) = omega (arith, in_range.1, apart) in
     let small = class-small p c.spans.ensures.sound c.args.s ((range_at c.args.zone.now c.args.s).last + 1) inside more in
     rw (c.class_list-classes.ensures, c.ranges-2.ensures) (omega
-    (arith, small, c.gap.ensures, ap gap_of c.style.ensures, gap-few p.style))
+    (arith, small, ap (λ (s : Spacing). s.gap) c.spacing.ensures.spacing, c.spacing.ensures.sound.near))
 
 pub keep_near-requires-clause-begins : goal.keep_near-requires-clause-begins
 keep_near-requires-clause-begins c =
@@ -60,7 +60,7 @@ keep_near-requires-clause-small c =
     let more : (range_at c.args.zone.now c.args.s).last + 1 < length (classes_at p c.args.s) = omega (arith, in_range.1, apart) in
     let small = class-small p c.spans.ensures.sound c.args.s ((range_at c.args.zone.now c.args.s).last + 1) inside more in
     rw (c.class_list-classes.ensures, c.ranges-2.ensures) (omega
-    (arith, small, c.gap.ensures, ap gap_of c.style.ensures, gap-few p.style))
+    (arith, small, ap (λ (s : Spacing). s.gap) c.spacing.ensures.spacing, c.spacing.ensures.sound.near))
 
 pub returns-clause-adds : goal.returns-clause-adds
 returns-clause-adds c =
@@ -73,7 +73,6 @@ returns-clause-adds c =
       c.spans.ensures.spans,
       c.class_list-classes.ensures,
       c.ranges-2.ensures,
-      c.gap.ensures,
-      c.style.ensures,
+      c.spacing.ensures.spacing,
       at,
     ) at c.keep_near.ensures.adds

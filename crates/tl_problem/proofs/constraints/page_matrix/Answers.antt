@@ -29,9 +29,7 @@ returns-clause-keeps c =
       c.saturating_sub-most.ensures,
       c.cols-cols.ensures,
       c.width.ensures,
-      c.gap.ensures,
-      c.edge.ensures,
-      c.style-style.ensures,
+      c.spacing-spacing.ensures.spacing,
     ) at c.keep_near.ensures.adds)
 
 pub returns-clause-whole : goal.returns-clause-whole
@@ -41,7 +39,5 @@ returns-clause-whole c =
       c.saturating_sub-most.ensures,
       c.cols-cols.ensures,
       c.width.ensures,
-      c.gap.ensures,
-      c.edge.ensures,
-      c.style-style.ensures,
+      c.spacing-spacing.ensures.spacing,
     ) at c.keep_near.ensures.adds)

@@ -11,5 +11,5 @@ returns-then-rows-eq0 c = least_total-none c.args.problem.now c.args.demands.now
 pub returns : goal.returns
 returns c =
     let some : 0 < c.args.problem.now.rows = omega (arith, c.rows-rows.ensures, c.if-rows-eq0.false) in
-    rw (c.find_ends-sizes.ensures.last, c.row_gap.ensures, c.edge.ensures, c.style-style.ensures, c.rows-rows.ensures)
+    rw (c.find_ends-sizes.ensures.last, c.spacing-spacing.ensures.spacing, c.rows-rows.ensures)
     (least_total-some c.args.problem.now c.args.demands.now c.find_ends-sizes.new.ends c.find_ends-sizes.ensures.ends some)

@@ -19,7 +19,7 @@ loop-number-preserved c =
     upto-set (λ k v. height_at (cell_at p.cells k).high (cell_width p c.args.widths.now (cell_at p.cells k)) ≡ Some v)
     c.loop-number.demands c.high_at.result number room c.loop-number.invariant
     (subst (λ (x : Cell). height_at x.high (cell_width p c.args.widths.now x) ≡ Some c.high_at.result) cell
-    (rw (c.gap-gap.ensures, c.style.ensures) at c.high_at.ensures))
+    (rw (c.spacing-gap.ensures.spacing) at c.high_at.ensures))
 
 pub returns-clause-high : goal.returns-clause-high
 returns-clause-high c = record {

@@ -1,5 +1,4 @@
 -- The least height for what the cells need is that of all rows under these widths.
-use Rattle.tl_base.specs.Style.{row_gap_of, edge_of}
 use Rattle.tl_problem.specs.declared.axis.Axis.TheVariants.{Rows}
 use Rattle.tl_problem.specs.Layouts.{GiveHigh}
 use Rattle.tl_problem.specs.inner.Demands.{GiveDemands}
@@ -15,7 +14,7 @@ returns c =
     let p = c.args.problem.now in
     let widths = c.args.widths.now in
     let demands = c.fill_high.new.demands in
-    IsLeastTotal-same (row_gap_of p.style) (edge_of p.style) (GiveDemands p Rows demands) (GiveHigh p widths)
+    IsLeastTotal-same p.spacing.row_gap p.spacing.lines (GiveDemands p Rows demands) (GiveHigh p widths)
     c.least_height.result
     (λ heights. high-give p c.fill_high.ensures.sound widths demands heights c.fill_high.ensures.high)
     (λ heights. give-high p c.fill_high.ensures.sound widths demands heights c.fill_high.ensures.high)

@@ -9,7 +9,7 @@ pub returns : goal.returns
 returns c =
     let p = c.args.problem.now in
     let total : c.total_size.result ≡ total_width p c.args.widths.now =
-    rw (c.gap.ensures, c.edge.ensures, c.style-style.ensures) at c.total_size.ensures.total in (
+    rw (c.spacing-spacing.ensures.spacing) at c.total_size.ensures.total in (
       λ yes. record {
         columns = omega (arith, c.if-widths-cols.false, c.cols.ensures);
         page = omega (arith, c.if-total_size-from.false, total, c.from.ensures, c.width.ensures);

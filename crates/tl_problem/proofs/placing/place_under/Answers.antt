@@ -1,6 +1,5 @@
 -- The least heights that give what is needed are those of a placement, and they are not large.
 use Rattle.std.proofs.Common.{◌≡◌, refl, arith}
-use Rattle.tl_base.specs.Style.{row_gap_of}
 use Rattle.tl_problem.specs.declared.axis.Axis.TheVariants.{Rows}
 use Rattle.tl_problem.specs.Problem.{total_width, total_height}
 use Rattle.tl_problem.specs.Layouts.{GiveHigh}
@@ -25,7 +24,7 @@ total_size-width-requires-clause-few c = omega (arith, c.requires.columns, c.cel
 pub overflow_cast-width : goal.overflow_cast-width
 overflow_cast-width c =
     let is : c.total_size-width.result ≡ total_width c.args.problem.now c.args.widths.now =
-    rw (c.gap.ensures, c.edge.ensures, c.style-style.ensures)
+    rw (c.spacing-spacing.ensures.spacing)
     at c.total_size-width.ensures.total in
     omega (arith, is, c.requires.page, c.cells-cells.ensures.sound.narrow)
 
@@ -37,8 +36,8 @@ pub overflow_cast-height : goal.overflow_cast-height
 overflow_cast-height c =
     let p = c.args.problem.now in
     let is : c.total_size-height.result ≡ total_height p c.in_ok-heights.heights = rw
-    (c.as_slice.ensures, c.row_gap.ensures, c.edge-2.ensures, c.style-style.ensures) at c.total_size-height.ensures.total in
-    let few = total-few p.style c.in_ok-heights.heights (omega
+    (c.as_slice.ensures, c.spacing-spacing.ensures.spacing) at c.total_size-height.ensures.total in
+    let few = total-few p.spacing.row_gap p.spacing.lines c.in_ok-heights.heights c.spacing-spacing.ensures.sound.close c.spacing-spacing.ensures.sound.few (omega
     (arith, c.in_ok-heights.ensures.least.kind.count, c.cells-cells.ensures.sound.few_rows)) in
     let sums = high-sum p c.cells-cells.ensures.sound c.args.widths.now c.in_ok-demands.demands.items c.in_ok-demands.ensures in
     let small = rw c.deref.ensures.value at c.in_ok-heights.ensures.small in
@@ -49,22 +48,17 @@ returns c =
     let p = c.args.problem.now in
     let demands = c.in_ok-demands.demands.items in
     let need = c.in_ok-demands.ensures in
-    let least : AreLeast (row_gap_of p.style) (GiveDemands p Rows demands) c.in_ok-heights.heights = rw c.deref.ensures.value at
+    let least : AreLeast p.spacing.row_gap (GiveDemands p Rows demands) c.in_ok-heights.heights = rw c.deref.ensures.value at
     c.in_ok-heights.ensures.least in
     rw c.in_ok-from_slice.ensures (
       record {
         page = c.requires;
-        rows = AreLeast-same (row_gap_of p.style) (GiveDemands p Rows demands) (GiveHigh p c.args.widths.now)
+        rows = AreLeast-same p.spacing.row_gap (GiveDemands p Rows demands) (GiveHigh p c.args.widths.now)
             c.in_ok-heights.heights
             (λ hs. high-give p c.cells-cells.ensures.sound c.args.widths.now demands hs need)
             (λ hs. give-high p c.cells-cells.ensures.sound c.args.widths.now demands hs need) least;
-        width = rw (c.gap.ensures, c.edge.ensures, c.style-style.ensures) at c.total_size-width.ensures.total;
-        height = rw (
-          c.as_slice.ensures,
-          c.row_gap.ensures,
-          c.edge-2.ensures,
-          c.style-style.ensures,
-        ) at c.total_size-height.ensures.total;
+        width = rw (c.spacing-spacing.ensures.spacing) at c.total_size-width.ensures.total;
+        height = rw (c.as_slice.ensures, c.spacing-spacing.ensures.spacing) at c.total_size-height.ensures.total;
       },
       refl,
     )

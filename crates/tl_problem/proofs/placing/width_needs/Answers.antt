@@ -13,7 +13,7 @@ loop-number-preserved c =
     let inside : number < length p.cells = omega (arith, c.loop-number-test.true, ap length c.requires.cells) in
     let is = rw c.requires.cells at c.index-cells-number.is in
     let cell : c.index-cells-number.result ≡ cell_at p.cells number = is ∙ get_or_default p.cells number _ _ inside in
-    let one = rw (c.gap-gap.ensures, c.style.ensures, cell) at c.width_at.ensures in
+    let one = rw (c.spacing-gap.ensures.spacing, cell) at c.width_at.ensures in
     rw c.in_ok-push.ensures.items
     (record {
       count = omega (arith, length_push c.loop-number.demands.items c.width_at.result, c.loop-number.invariant.count);

@@ -10,7 +10,7 @@ order-requires c =
     let p : ProblemModel = record {
       cols = c.args.cols;
       rows = c.args.rows;
-      style = c.args.style;
+      spacing = c.args.spacing;
       width = c.args.width;
       cells =
           c.args.cells;
@@ -22,7 +22,7 @@ order-requires-2 c =
     let p : ProblemModel = record {
       cols = c.args.cols;
       rows = c.args.rows;
-      style = c.args.style;
+      spacing = c.args.spacing;
       width = c.args.width;
       cells =
           c.args.cells;
@@ -37,7 +37,7 @@ invariant_of-result c =
     let p : ProblemModel = record {
       cols = c.args.cols;
       rows = c.args.rows;
-      style = c.args.style;
+      spacing = c.args.spacing;
       width = c.args.width;
       cells =
           c.args.cells;
@@ -50,7 +50,6 @@ invariant_of-result c =
           (rw (
             c.as_slice-3.ensures,
             c.saturating_sub-page_room.ensures,
-            c.edge.ensures,
             c.deref-2.ensures.value,
             each,
           ) at c.in_ok-classes.ensures);

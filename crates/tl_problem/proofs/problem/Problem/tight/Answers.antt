@@ -1,6 +1,5 @@
 -- The least positions that keep each cell's height.
 use Rattle.std.proofs.Common.{arith}
-use Rattle.tl_base.specs.Style.{gap_of}
 use Rattle.tl_problem.specs.declared.axis.Axis.TheVariants.{Columns}
 use Rattle.tl_problem.specs.Tight.{KeepHigh, IsTightFrom}
 use Rattle.tl_problem.specs.inner.Demands.{GiveDemands}
@@ -24,7 +23,7 @@ place_under-requires c =
     let widths = c.args.placed.now.widths in
     let demands = c.in_ok-demands.demands.items in
     let need = rw c.as_slice.ensures at c.in_ok-demands.ensures in
-    let least = AreLeast-same (gap_of p.style) (GiveDemands p Columns demands) (KeepHigh p widths) c.in_ok-widths.widths
+    let least = AreLeast-same p.spacing.gap (GiveDemands p Columns demands) (KeepHigh p widths) c.in_ok-widths.widths
     (λ xs. keep-give p sound widths demands xs need) (λ xs. give-keep p sound widths demands xs need)
     (rw c.deref.ensures.value at c.in_ok-widths.ensures.least) in
     rw c.as_slice-2.ensures (page-keep p sound widths c.in_ok-widths.widths c.requires.page least)
@@ -36,7 +35,7 @@ returns-clause-tight c =
     let widths = c.args.placed.now.widths in
     let demands = c.in_ok-demands.demands.items in
     let need = rw c.as_slice.ensures at c.in_ok-demands.ensures in
-    let least = AreLeast-same (gap_of p.style) (GiveDemands p Columns demands) (KeepHigh p widths) c.in_ok-widths.widths
+    let least = AreLeast-same p.spacing.gap (GiveDemands p Columns demands) (KeepHigh p widths) c.in_ok-widths.widths
     (λ xs. keep-give p sound widths demands xs need) (λ xs. give-keep p sound widths demands xs need)
     (rw c.deref.ensures.value at c.in_ok-widths.ensures.least) in
     let made : IsTightFrom p widths c.in_ok-tight.tight = record {
@@ -52,7 +51,7 @@ returns-clause-no_wider c =
     let widths = c.args.placed.now.widths in
     let demands = c.in_ok-demands.demands.items in
     let need = rw c.as_slice.ensures at c.in_ok-demands.ensures in
-    let least = AreLeast-same (gap_of p.style) (GiveDemands p Columns demands) (KeepHigh p widths) c.in_ok-widths.widths
+    let least = AreLeast-same p.spacing.gap (GiveDemands p Columns demands) (KeepHigh p widths) c.in_ok-widths.widths
     (λ xs. keep-give p sound widths demands xs need) (λ xs. give-keep p sound widths demands xs need)
     (rw c.deref.ensures.value at c.in_ok-widths.ensures.least) in
     let made : IsTightFrom p widths c.in_ok-tight.tight = record {
@@ -68,7 +67,7 @@ returns-clause-no_higher c =
     let widths = c.args.placed.now.widths in
     let demands = c.in_ok-demands.demands.items in
     let need = rw c.as_slice.ensures at c.in_ok-demands.ensures in
-    let least = AreLeast-same (gap_of p.style) (GiveDemands p Columns demands) (KeepHigh p widths) c.in_ok-widths.widths
+    let least = AreLeast-same p.spacing.gap (GiveDemands p Columns demands) (KeepHigh p widths) c.in_ok-widths.widths
     (λ xs. keep-give p sound widths demands xs need) (λ xs. give-keep p sound widths demands xs need)
     (rw c.deref.ensures.value at c.in_ok-widths.ensures.least) in
     let made : IsTightFrom p widths c.in_ok-tight.tight = record {

@@ -1,5 +1,4 @@
 use Rattle.std.proofs.Common.{◌≡◌, ◌<◌, ◌≤◌, ◌++◌, ◌∷◌, [], length, refl, sym, ap, ◌∙◌, subst}
-use Rattle.tl_base.specs.Style.{gap_of}
 use Rattle.tl_problem.specs.Bounds.{IsBound}
 use Rattle.tl_problem.specs.Placements.{AreLeast}
 use Rattle.tl_problem.specs.Zones.{range_at, InZone, IsZone, lower_part, upper_part}
@@ -83,9 +82,9 @@ look-requires-clause-known c =
     let same = arena-item p old c.requires.arena cut.zone c.index-zone.result.now c.requires.cut.stands.there c.index-zone.ensures in
     let low : c.in_ok-lower.lower ≡ lower_part zone cut.span cut.class =
     c.in_ok-lower.ensures.lower ∙ ap (λ z. lower_part z cut.span cut.class) same in
-    let found : AreLeast (gap_of p.style) (InZone p c.index-zone.result.now) c.unwrap-least.result =
+    let found : AreLeast p.spacing.gap (InZone p c.index-zone.result.now) c.unwrap-least.result =
     rw c.unwrap-least.ensures at c.in_ok-least_in.ensures.widths in
-    let least = subst (λ z. AreLeast (gap_of p.style) (InZone p z) c.unwrap-least.result) same found in
+    let least = subst (λ z. AreLeast p.spacing.gap (InZone p z) c.unwrap-least.result) same found in
     subst (λ part. IsKnownFor p part c.unwrap-least.result old.best.height) (sym low)
     (known-part p c.requires.arena.work.sound zone (lower_part zone cut.span cut.class) c.unwrap-least.result old.best.height
     (lower-inside p c.requires.arena.work.sound zone (arena-zone p old c.requires.arena cut.zone c.requires.cut.stands.there)
@@ -101,9 +100,9 @@ look-requires-2-clause-known c =
     let same = arena-item p old c.requires.arena cut.zone c.index-zone.result.now c.requires.cut.stands.there c.index-zone.ensures in
     let high : c.in_ok-lower.upper ≡ upper_part zone cut.span cut.class =
     c.in_ok-lower.ensures.upper ∙ ap (λ z. upper_part z cut.span cut.class) same in
-    let found : AreLeast (gap_of p.style) (InZone p c.index-zone.result.now) c.unwrap-least.result =
+    let found : AreLeast p.spacing.gap (InZone p c.index-zone.result.now) c.unwrap-least.result =
     rw c.unwrap-least.ensures at c.in_ok-least_in.ensures.widths in
-    let least = subst (λ z. AreLeast (gap_of p.style) (InZone p z) c.unwrap-least.result) same found in
+    let least = subst (λ z. AreLeast p.spacing.gap (InZone p z) c.unwrap-least.result) same found in
     known-lower p c.in_ok-lower.upper c.unwrap-least.result old.best.height c.look.new.best.height
     (lowered-le old.best c.look.new.best c.look.ensures.lowered)
     (subst (λ part. IsKnownFor p part c.unwrap-least.result old.best.height) (sym high)
