@@ -125,6 +125,7 @@ first_is_well_formed = record {
 abbrev cell_a : OpenCell
 cell_a = record {
   kind = kinds.Head;
+  in_head = false;
   place = slot_in 0 0;
   least = 5;
   blocks = roll-Content (open_content.Para (Word (codes "a") ∷ [])) ∷ [];
@@ -133,6 +134,7 @@ cell_a = record {
 abbrev cell_b : OpenCell
 cell_b = record {
   kind = kinds.Head;
+  in_head = false;
   place = slot_in 0 1;
   least = 0;
   blocks = roll-Content (open_content.Para (Word (codes "b") ∷ [])) ∷ [];
@@ -145,6 +147,7 @@ is_cell_a : IsFieldCell true (5 ∷ []) Words (at 0 0 (codes "a")) cell_a
 unfolding chars
 is_cell_a = record {
   kind = refl;
+  in_head = refl;
   place = refl;
   least = refl;
   blocks = λ i. out-roll-Content (open_content.Para (Word (codes "a") ∷ [])) i ∷ [];
@@ -154,6 +157,7 @@ is_cell_b : IsFieldCell true (5 ∷ []) Words (at 0 1 (codes "b")) cell_b
 unfolding chars
 is_cell_b = record {
   kind = refl;
+  in_head = refl;
   place = refl;
   least = refl;
   blocks = λ i. out-roll-Content (open_content.Para (Word (codes "b") ∷ [])) i ∷ [];

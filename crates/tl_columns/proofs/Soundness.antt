@@ -49,6 +49,7 @@ cell_itself : (cell : TableCell) → IsTextCell cell →
     AreSameCell (AreSameWithin 0) (out-TableCell cell) (out-TableCell cell)
 cell_itself cell text = record {
   kind = refl;
+  in_head = refl;
   place = refl;
   least = refl;
   blocks = zip_itself (λ block. IsText (out-Content block))

@@ -1,6 +1,6 @@
 -- The table of a list of records: a row for each record, a column for each field of the first, and a cell for each field,
 -- whose words are its one paragraph.
-use Rattle.std.specs.Prelude.{◌≡◌, ℕ, ◌+◌, ◌==◌, ◌&&◌, Bool, List, [], ◌∷◌, length, map, if◌then◌else◌, slice_index}
+use Rattle.std.specs.Prelude.{◌≡◌, ℕ, ◌+◌, ◌==◌, ◌&&◌, Bool, false, List, [], ◌∷◌, length, map, if◌then◌else◌, slice_index}
 use Rattle.std.specs.List.{AllZip, enumerate_from, flat_map}
 use Rattle.std.specs.Str.{chars}
 use Rattle.tl_base.specs.declared.breaking.Breaking.{Breaking}
@@ -51,6 +51,7 @@ blocks_of_words breaking (word ∷ words) = open_content.Para (broken breaking (
 -- the cell is that of the field in its row and column
 pub record IsFieldCell (head : Bool) (floors : List ℕ) (breaking : Breaking) (at : PlacedField) (cell : OpenCell) : Type 0 where
   pub kind : cell.kind ≡ kind_in head at.row
+  pub in_head : cell.in_head ≡ false
   pub place : cell.place ≡ slot_in at.row at.column
   pub least : cell.least ≡ floor_in floors at.row at.column
   pub blocks : map out-Content cell.blocks ≡ blocks_of_words breaking (words_of (chars at.field))

@@ -118,6 +118,7 @@ fn cell(
     let blocks = blocks(alloc, text, breaking)?;
     Ok(TableCell {
         kind: kind_in(head, row),
+        in_head: false,
         place: slot_in(row, column),
         least: floor_in(least, row, column),
         blocks,

@@ -1,5 +1,5 @@
 -- The tree of a table becomes a table, whose cells are those drawn, each at its place of the grid.
-use Rattle.std.proofs.Common.{◌≡◌, ◌∙◌, ℕ, zero, suc, ◌+◌, ◌<◌, ◌≤◌, max, ◌⊎◌, false, List, [], ◌∷◌, ◌++◌, map, length, get_or}
+use Rattle.std.proofs.Common.{◌≡◌, ◌∙◌, ℕ, zero, suc, ◌+◌, ◌<◌, ◌≤◌, max, ◌⊎◌, Bool, false, List, [], ◌∷◌, ◌++◌, map, length, get_or}
 use Rattle.std.proofs.Common.{insert}
 use Rattle.std.proofs.Common.{refl, sym, ap, subst, inl, inr, arith, append-nil}
 use Rattle.std.specs.List.{All, AllByRecursion, flat_map}
@@ -31,11 +31,10 @@ use Rattle.tl_table.specs.declared.cell.Content.TheOpen as open_content
 use Rattle.tl_table.specs.declared.cell.Kind.TheVariants as kinds
 use Rattle.tl_table.specs.declared.cell.Table.{Table, out-Table, roll-Table, out-roll-Table}
 use Rattle.tl_table.specs.declared.cell.TableCell.{TableCell, out-TableCell, roll-TableCell, out-roll-TableCell}
-use Rattle.tl_table.specs.Tables.{OpenTable, OpenCell, OpenContent}
+use Rattle.tl_table.specs.Tables.{OpenTable, OpenCell, OpenContent, is_in_head, place_of}
 use Rattle.tl_table.specs.Formed.{OpenNode, OpenGroup, OpenCellNode, OpenBlock, Becomes, BecomesCell, BecomeCells, BecomesContent}
 use Rattle.tl_table.specs.Formed.{BecomeCaption, caption_rows}
-use Rattle.tl_table.specs.Formed.{cells_of_group, cells_written, is_foot, lowered, shape_of, span_of}
-use Rattle.tl_table.specs.Sound.{place_of}
+use Rattle.tl_table.specs.Formed.{cells_of_group, cells_written, is_foot, lowered, marks_of_group, marks_written, shape_of, span_of}
 use Rattle.tl_table.specs.Formed.{Writes, slot_number}
 use Rattle.tl_table.proofs.Formed.{made_table, as_many_cells}
 use Rattle.tl_demo.specs.Demo.{DemoCell}
@@ -106,6 +105,7 @@ sorted_by measure (x ∷ xs) =
 abbrev pub open_cell : DemoCell → Place → OpenCell
 open_cell c place = record {
   kind = kinds.Plain;
+  in_head = false;
   place = place;
   least = 0;
   blocks =
@@ -138,6 +138,15 @@ places_are (c ∷ cells) [] same = absurd (omega (arith, same))
 places_are (c ∷ cells) (place ∷ places) same =
     ap (λ (o : OpenCell). o.place ∷ map place_of (placed_cells cells places)) (out-roll-TableCell (open_cell c place))
     ∙ ap (λ (ps : List Place). place ∷ ps) (places_are cells places (omega (arith, same)))
+
+-- no cell is of a `thead`
+marks_are : (cells : List DemoCell) (places : List Place) → length cells ≡ length places →
+    map is_in_head (placed_cells cells places) ≡ map (λ (c : DemoCell). false) cells
+marks_are [] places same = refl
+marks_are (c ∷ cells) [] same = absurd (omega (arith, same))
+marks_are (c ∷ cells) (place ∷ places) same =
+    ap (λ (o : OpenCell). o.in_head ∷ map is_in_head (placed_cells cells places)) (out-roll-TableCell (open_cell c place))
+    ∙ ap (λ (ms : List Bool). false ∷ ms) (marks_are cells places (omega (arith, same)))
 
 -- a cell of the table: one that was drawn, at some place
 abbrev pub IsDrawnTableCell : TableCell → Type 0
@@ -205,6 +214,28 @@ written_are : (rows : List (List DemoCell)) → cells_written (open_table_node r
 written_are rows =
     append-nil (cells_of_group (out-GroupNode (roll-GroupNode (open_group_node rows))))
     ∙ ap (λ (g : OpenGroup). cells_of_group g) (out-roll-GroupNode (open_group_node rows)) ∙ nodes_in_order rows
+
+-- the one group of the tree is no `thead`
+no_marks : (rows : List (List DemoCell)) → marks_written (open_table_node rows) ≡
+    map (λ (c : DemoCell). false) (cells_in_order rows)
+no_marks rows =
+    append-nil (marks_of_group (out-GroupNode (roll-GroupNode (open_group_node rows))))
+    ∙ ap (λ (g : OpenGroup). marks_of_group g) (out-roll-GroupNode (open_group_node rows)) ∙ by_rows rows
+  where
+    by_row : (cells : List DemoCell) → map (λ (node : CellNode). false) (map cell_node cells) ≡
+        map (λ (c : DemoCell). false) cells
+    by_row [] = refl
+    by_row (c ∷ cells) = ap (λ (ms : List Bool). false ∷ ms) (by_row cells)
+
+    by_rows : (rows : List (List DemoCell)) →
+        flat_map (λ (nodes : List CellNode). map (λ (node : CellNode). false) nodes) (map (map cell_node) rows) ≡
+        map (λ (c : DemoCell). false) (cells_in_order rows)
+    by_rows [] = refl
+    by_rows (cells ∷ rows) =
+        ap (λ (ms : List Bool). ms ++ flat_map (λ (nodes : List CellNode). map (λ (node : CellNode). false) nodes)
+        (map (map cell_node) rows)) (by_row cells)
+        ∙ ap (λ (ms : List Bool). map (λ (c : DemoCell). false) cells ++ ms) (by_rows rows)
+        ∙ sym (map-append (λ (c : DemoCell). false) cells (cells_in_order rows))
 
 -- the spans of the tree are those of the rows
 row_spans_are : (cells : List DemoCell) → map span_of (map cell_node cells) ≡ map span_in cells
@@ -286,12 +317,13 @@ module _ (rows : List (List DemoCell)) (all : AllByRecursion IsDrawnRow rows) (f
   written = placed_cells cells places
 
   -- the cells are written at the places of the grid
-  writes : Writes Words (cells_written node) places [] written
+  writes : Writes Words (cells_written node) (marks_written node) places [] written
   writes = record {
     more = written;
     joined = refl;
     cells = subst (λ (ns : List CellNode). BecomeCells Forms Words ns written) (sym nodes_are)
         (cells_become cells places as_many);
+    marked = marks_are cells places as_many ∙ sym (ap marks_written node_is ∙ no_marks rows);
     placed = places_are cells places as_many ∙ sym (take_all (length written) places
         (omega (arith, placed_length cells places as_many)));
   }

@@ -97,6 +97,7 @@ module _ (wide less most : ℕ) (wide_below : wide ≤ less) (some : 0 < less) (
     steady-caption cols (Some flow) (cell ∷ cells) apart become = (
       record {
         kind = become.0.kind;
+        in_head = become.0.in_head;
         place = become.0.place;
         least = become.0.least;
         blocks = steady-blocks flow cell apart.0 become.0.blocks;
@@ -127,6 +128,7 @@ module _ (wide less most : ℕ) (wide_below : wide ≤ less) (some : 0 < less) (
       written = becomes.written;
       cells = steady-cells _ becomes.written
           (AllByRecursion-suffix IsApartCell becomes.caption becomes.written each) becomes.cells;
+      marked = becomes.marked;
       places = becomes.places;
       same = becomes.same;
       in_order = becomes.in_order;

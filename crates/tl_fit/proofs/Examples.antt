@@ -1,7 +1,7 @@
 -- The definitions, run on a table that is drawn, and read aloud.
 --
 --   |aa b||cccc| d||     (a table in the right cell, with two cells of its own)
-use Rattle.std.proofs.Common.{◌≡◌, ◌∙◌, inl, inr, ℕ, ◌<◌, List, [], ◌∷◌, ◌++◌, length, codes, refl, ap, arith, append-nil}
+use Rattle.std.proofs.Common.{◌≡◌, ◌∙◌, inl, inr, ℕ, ◌<◌, List, [], ◌∷◌, ◌++◌, length, codes, refl, ap, arith, append-nil, false}
 use Rattle.std.specs.List.{flat_map}
 use Rattle.std.specs.declared.alloc.Global.{Global}
 use Rattle.std.specs.declared.boxed.Box.{Box}
@@ -41,7 +41,7 @@ d = Word (codes "d")
 
 abbrev cell : ℕ → OpenContent → OpenCell
 cell column block =
-    record { kind = kinds.Plain; place = slot_in 0 column; least = 0; blocks = roll-Content block ∷ [] }
+    record { kind = kinds.Plain; in_head = false; place = slot_in 0 column; least = 0; blocks = roll-Content block ∷ [] }
 
 abbrev row : ℕ → OpenContent → OpenContent → OpenTable
 row number left right = record {

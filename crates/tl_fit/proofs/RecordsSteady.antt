@@ -66,6 +66,7 @@ module _ (wide less most : ℕ) (wide_below : wide ≤ less) (some : 0 < less) (
         AreApart wide most (units_in_cell cell) → IsFieldCell head floors (Wider less) at (out-TableCell cell)
     cell_steady at cell is apart = record {
       kind = is.kind;
+      in_head = is.in_head;
       place = is.place;
       least = is.least;
       blocks = is.blocks ∙ words_steady (words_of (chars at.field)) (subst (AreApart wide most) (field_units at cell is) apart);

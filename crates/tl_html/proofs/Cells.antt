@@ -27,11 +27,11 @@ use Rattle.tl_table.specs.declared.cell.Table.{Table}
 use Rattle.tl_table.specs.declared.cell.TableCell.{TableCell, out-TableCell, roll-TableCell, out-roll-TableCell}
 use Rattle.tl_table.specs.declared.cell.TableCell.{fold_out-TableCell}
 use Rattle.tl_table.specs.declared.layout.Layout.{Layout}
-use Rattle.tl_table.specs.Tables.{OpenCell, tables_in}
+use Rattle.tl_table.specs.Tables.{OpenCell, tables_in, is_in_head}
 use Rattle.tl_table.specs.Formed.{OpenCellNode, BecomesCell, BecomeCells, header_kind, span_of}
-use Rattle.tl_table.specs.Same.{AreSameCell}
 use Rattle.tl_table.specs.Sound.{place_of}
 use Rattle.tl_table.proofs.SoundNodes.{rows_outline}
+use Rattle.tl_html.specs.Alike.{AreAlikeCell}
 use Rattle.tl_html.specs.declared.filled.Filled.{Filled}
 use Rattle.tl_html.specs.Html.{HtmlCell, fill, blocks_html, block_page, table_page, cell_page, flow_of, cell_of, cell_html}
 use Rattle.tl_html.specs.Html.{is_caption, line}
@@ -212,6 +212,10 @@ pub cell_of-out : (c : TableCell) → let o = out-TableCell c in
     } in made)
 cell_of-out c = fold_out-TableCell html.Block (Layout → List ℕ) HtmlCell block_page table_page cell_page c
 
+-- none of the cells is of a `thead`
+abbrev pub no_marks : List CellNode → List Bool
+no_marks nodes = map (λ (node : CellNode). false) nodes
+
 -- a cell below the caption: what it is, how large, and that its paragraphs can be spelt
 pub record IsBelow (breaking : Breaking) (c : TableCell) : Type 0 where
   pub head : Bool
@@ -243,7 +247,8 @@ module _ (breaking : Breaking) (forms : TableNode → Table → Type 0) (alike :
     pub stand : StandFor k ms (cells_outline nodes) next
     pub back : List TableCell
     pub become : BecomeCells forms breaking nodes back
-    pub same : AllZip (λ one twin. AreSameCell alike (out-TableCell one) (out-TableCell twin)) cells back
+    pub same : AllZip (λ one twin. AreAlikeCell alike (out-TableCell one) (out-TableCell twin)) cells back
+    pub marked : map is_in_head back ≡ no_marks nodes
     pub places : map place_of back ≡ map place_of cells
     pub spans : map span_of nodes ≡ map (λ c. span_at (place_of c)) cells
 
@@ -271,6 +276,7 @@ module _ (breaking : Breaking) (forms : TableNode → Table → Type 0) (alike :
     back = [];
     become = tt;
     same = tt;
+    marked = refl;
     places = refl;
     spans = refl;
   }
@@ -294,7 +300,7 @@ module _ (breaking : Breaking) (forms : TableNode → Table → Type 0) (alike :
             flow.flow;
       } in
       let made : CellNode = roll-CellNode node' in
-      let twin' : OpenCell = record { kind = o.kind; place = place; least = o.least; blocks = flow.back } in
+      let twin' : OpenCell = record { kind = o.kind; in_head = false; place = place; least = o.least; blocks = flow.back } in
       let twin : TableCell = roll-TableCell twin' in
       let open_node : out-CellNode made ≡ node' = out-roll-CellNode node' in
       let open_twin : out-TableCell twin ≡ twin' = out-roll-TableCell twin' in
@@ -345,10 +351,12 @@ module _ (breaking : Breaking) (forms : TableNode → Table → Type 0) (alike :
           rest.become,
         );
         same = (
-          subst (λ (d : OpenCell). AreSameCell alike o d) (sym open_twin)
+          subst (λ (d : OpenCell). AreAlikeCell alike o d) (sym open_twin)
               (record { kind = refl; place = refl; least = refl; blocks = flow.same }),
           rest.same,
         );
+        marked = ap (λ (d : OpenCell). d.in_head ∷ map is_in_head rest.back) open_twin
+            ∙ ap (λ (ms : List Bool). false ∷ ms) rest.marked;
         places = ap (λ (d : OpenCell). d.place ∷ map place_of rest.back) open_twin ∙ ap (λ (ps : List Place). place ∷ ps)
             rest.places;
         spans = ap (λ (d : OpenCellNode). (let s : SpanOf = record { colspan = d.colspan; rowspan = d.rowspan } in
@@ -403,7 +411,8 @@ module _ (breaking : Breaking) (forms : TableNode → Table → Type 0) (alike :
     pub stand : StandFor k ms (rows_outline nodes) next
     pub back : List TableCell
     pub become : BecomeCells forms breaking (joined nodes) back
-    pub same : AllZip (λ one twin. AreSameCell alike (out-TableCell one) (out-TableCell twin)) (joined rows) back
+    pub same : AllZip (λ one twin. AreAlikeCell alike (out-TableCell one) (out-TableCell twin)) (joined rows) back
+    pub marked : map is_in_head back ≡ flat_map no_marks nodes
     pub places : map place_of back ≡ map place_of (joined rows)
     pub spans : map (map span_of) nodes ≡ map (map (λ c. span_at (place_of c))) rows
 
@@ -429,6 +438,7 @@ module _ (breaking : Breaking) (forms : TableNode → Table → Type 0) (alike :
     back = [];
     become = tt;
     same = tt;
+    marked = refl;
     places = refl;
     spans = refl;
   }
@@ -475,8 +485,11 @@ module _ (breaking : Breaking) (forms : TableNode → Table → Type 0) (alike :
         become = AllZip-append (λ node made. BecomesCell forms breaking (out-CellNode node) (out-TableCell made)) one.nodes
             (joined rest.nodes) one.back rest.back
             one.become rest.become;
-        same = AllZip-append (λ c twin. AreSameCell alike (out-TableCell c) (out-TableCell twin)) cells (joined rows)
+        same = AllZip-append (λ c twin. AreAlikeCell alike (out-TableCell c) (out-TableCell twin)) cells (joined rows)
             one.back rest.back one.same rest.same;
+        marked = map-append is_in_head one.back rest.back
+            ∙ ap (λ (ms : List Bool). ms ++ map is_in_head rest.back) one.marked
+            ∙ ap (λ (ms : List Bool). no_marks one.nodes ++ ms) rest.marked;
         places = map-append place_of one.back rest.back ∙ ap (λ (ps : List Place). ps ++ map place_of rest.back) one.places
             ∙ ap (λ (ps : List Place). map place_of cells ++ ps) rest.places ∙ sym (map-append place_of cells (joined rows));
         spans = ap (λ (ss : List SpanOf). ss ∷ map (map span_of) rest.nodes) one.spans

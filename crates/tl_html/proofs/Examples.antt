@@ -1,19 +1,18 @@
 -- The page of a table with a cell over both columns and two below it, in a layout of 1 and 4 columns; and that of a
 -- table with a caption and a header cell with a floor. And when tables are alike, and a layout has columns.
-use Rattle.std.proofs.Common.{◌≡◌, ◌∙◌, ℕ, zero, suc, List, [], ◌∷◌, ◌++◌, length, codes, refl, sym, ap, subst, arith}
+use Rattle.std.proofs.Common.{◌≡◌, ◌∙◌, ℕ, zero, suc, List, [], ◌∷◌, ◌++◌, length, codes, refl, sym, ap, subst, arith, false}
 use Rattle.std.specs.List.{AllZip}
 use Rattle.std.proofs.lemmas.Fmt.{decimal_digit}
 use Rattle.tl_text.specs.declared.paragraph.Atom.TheVariants.{Word, Glue, Break}
 use Rattle.tl_html.specs.declared.filled.Filled.{Filled}
 use Rattle.tl_html.specs.Html.{paragraph_html, caption_html, columns_html, rows_html}
-use Rattle.tl_html.specs.Alike.{AreAlikeBy, AreAlikeWithin, AreAlike}
+use Rattle.tl_html.specs.Alike.{AreAlikeBy, AreAlikeCell, AreAlikeWithin, AreAlike}
 use Rattle.tl_html.specs.Readable.{HasColumnsBy, HasColumnsWithin, HasColumns}
 use Rattle.tl_table.specs.declared.cell.Kind.TheVariants as kinds
 use Rattle.tl_table.specs.declared.cell.Table.{Table, out-Table, roll-Table, out-roll-Table}
 use Rattle.tl_table.specs.declared.cell.TableCell.{roll-TableCell, out-roll-TableCell}
 use Rattle.tl_table.specs.declared.layout.Layout.{out-Layout, roll-Layout, out-roll-Layout}
 use Rattle.tl_table.specs.Layouts.{OpenLayout}
-use Rattle.tl_table.specs.Same.{AreSameCell}
 use Rattle.tl_table.specs.Tables.{OpenTable, OpenCell, tables_in}
 
 -- a space between two words, none at a break, and four characters escaped
@@ -88,6 +87,7 @@ captioned_rows = rw (decimal_digit 4 (omega arith))
 abbrev empty_cell : ℕ → OpenCell
 empty_cell cols = record {
   kind = kinds.Plain;
+  in_head = false;
   place = record { left = 0; right = cols; top = 0; bottom = 1 };
   least =
       0;
@@ -113,7 +113,7 @@ numbers_aside = (
         cols = refl;
         rows = refl;
         cells = (
-          subst (λ (c : OpenCell). AreSameCell (AreAlikeWithin 0) c c) (sym (out-roll-TableCell (empty_cell 1)))
+          subst (λ (c : OpenCell). AreAlikeCell (AreAlikeWithin 0) c c) (sym (out-roll-TableCell (empty_cell 1)))
               (record { kind = refl; place = refl; least = refl; blocks = tt }),
           tt,
         );

@@ -37,15 +37,14 @@ use Rattle.tl_table.specs.declared.cell.TableCell.{TableCell, out-TableCell}
 use Rattle.tl_table.specs.declared.layout.Layout.{Layout, out-Layout}
 use Rattle.tl_table.specs.Layouts.{OpenLayout}
 use Rattle.tl_table.specs.Tables.{OpenTable, tables_in}
-use Rattle.tl_table.specs.Formed.{OpenNode, OpenGroup, BecomeCells, BecomesBy, cells_of_group}
+use Rattle.tl_table.specs.Formed.{OpenNode, OpenGroup, BecomeCells, BecomesBy, cells_of_group, marks_of_group, marks_of_groups}
 use Rattle.tl_table.specs.Formed.{group_shape}
 use Rattle.tl_table.specs.Formed.{is_foot, lowered, span_of}
-use Rattle.tl_table.specs.Same.{AreSameCell}
 use Rattle.tl_table.specs.Sound.{ComesBefore, IsSoundBy, place_of, places_of}
 use Rattle.tl_table.proofs.SoundParts.{each_joined}
 use Rattle.tl_table.proofs.SoundNodes.{groups_outline}
 use Rattle.tl_html.specs.declared.filled.Filled.{Filled}
-use Rattle.tl_html.specs.Alike.{AreAlikeBy}
+use Rattle.tl_html.specs.Alike.{AreAlikeBy, AreAlikeCell}
 use Rattle.tl_html.specs.Html.{HtmlCell, fill, block_page, table_page, cell_page, cell_of, html_of, caption_line, caption_html}
 use Rattle.tl_html.specs.Html.{columns_html, row_html}
 use Rattle.tl_html.specs.Html.{rows_html, line}
@@ -58,7 +57,7 @@ use Rattle.tl_html.proofs.PageWords.{grammar_kinds, kinds_append, StandFor}
 use Rattle.tl_html.proofs.GridAgain.{span_at, shape_on, AreRows, IsGrid}
 use Rattle.tl_html.proofs.GridKept.{grid_again}
 use Rattle.tl_html.proofs.Blocks.{TableBack, last_item, stand_append}
-use Rattle.tl_html.proofs.Cells.{HasRows, IsBelow, RowsBack, rows_back, joined}
+use Rattle.tl_html.proofs.Cells.{HasRows, IsBelow, RowsBack, rows_back, joined, no_marks}
 use Rattle.tl_html.proofs.TableRows.{raised, lowered_raised, InRow, InRows}
 use Rattle.tl_html.proofs.TableRows as table_rows
 use Rattle.tl_html.proofs.TableParts.{BeginInRows, rows_written, no_captions, columns_items, columns_are, columns_written}
@@ -518,6 +517,15 @@ module _ (breaking : Breaking) (forms : TableNode → Table → Type 0) (alike :
         (sym (append-nil (cells_of_group (out-GroupNode (group_of nodes))) ∙ ap (λ (g : OpenGroup). cells_of_group g)
         (out-roll-GroupNode open_group))) become
 
+    -- the one group is no `thead`
+    marks_are_none : (rs : List (List TableCell)) (nodes : List (List CellNode)) → (rs ≡ [] → nodes ≡ []) →
+        flat_map no_marks nodes ≡ marks_of_groups (groups_of rs nodes)
+    marks_are_none [] nodes none = ap (λ (ns : List (List CellNode)). flat_map no_marks ns) (none refl)
+    marks_are_none (r ∷ rs) nodes none =
+        let open_group : OpenGroup = record { part = parts.Loose; rows = nodes } in
+        sym (append-nil (marks_of_group (out-GroupNode (group_of nodes))) ∙ ap (λ (g : OpenGroup). marks_of_group g)
+        (out-roll-GroupNode open_group))
+
     no_nodes : (rs : List (List TableCell)) (items : List Item) (ms : Marks) (nodes : List (List CellNode)) →
         HasRows rs items ms nodes → rs ≡ [] → nodes ≡ []
     no_nodes [] items ms nodes begun is = begun.2
@@ -541,6 +549,7 @@ module _ (breaking : Breaking) (forms : TableNode → Table → Type 0) (alike :
       captioned = cap.become;
       written = rest.back;
       cells = written_is rows rest.nodes rest.back (no_nodes rows rest.items rest.ms rest.nodes rest.begun) rest.become;
+      marked = rest.marked ∙ marks_are_none rows rest.nodes (no_nodes rows rest.items rest.ms rest.nodes rest.begun);
       places = rest.places ∙ ap (map place_of) by_rows.1
           ∙ lowers_back below (recursion_from_All (λ c. (down ≤ (place_of c).top) × ((place_of c).top < (place_of c).bottom))
           below
@@ -551,7 +560,7 @@ module _ (breaking : Breaking) (forms : TableNode → Table → Type 0) (alike :
     }
 
     abbrev SameCells : TableCell → TableCell → Type 0
-    SameCells one twin = AreSameCell alike (out-TableCell one) (out-TableCell twin)
+    SameCells one twin = AreAlikeCell alike (out-TableCell one) (out-TableCell twin)
 
     same : AreAlikeBy alike T open_back
     same = record {

@@ -30,9 +30,9 @@ use Rattle.tl_table.specs.declared.cell.TableCell.{TableCell, out-TableCell, rol
 use Rattle.tl_table.specs.declared.layout.Layout.{Layout}
 use Rattle.tl_table.specs.Tables.{OpenCell, tables_in}
 use Rattle.tl_table.specs.Formed.{BecomeCaption, BecomesCaption, OpenGroup, caption_rows}
-use Rattle.tl_table.specs.Same.{AreSameCell}
 use Rattle.tl_table.specs.Sound.{place_of}
 use Rattle.tl_table.proofs.SoundNodes.{rows_outline, groups_outline}
+use Rattle.tl_html.specs.Alike.{AreAlikeCell}
 use Rattle.tl_html.specs.declared.filled.Filled.{Filled}
 use Rattle.tl_html.specs.Html.{HtmlCell, fill, blocks_html, flow_of, cell_of, cell_html, cell_in_row, is_caption, caption_line}
 use Rattle.tl_html.specs.Html.{column_html}
@@ -300,7 +300,7 @@ module _ (breaking : Breaking) (forms : TableNode → Table → Type 0) (alike :
     pub rows : caption_rows flow ≡ down
     pub back : List TableCell
     pub become : BecomeCaption forms breaking cols flow back
-    pub same : AllZip (λ one twin. AreSameCell alike (out-TableCell one) (out-TableCell twin)) cells back
+    pub same : AllZip (λ one twin. AreAlikeCell alike (out-TableCell one) (out-TableCell twin)) cells back
     pub places : map place_of back ≡ map place_of cells
 
   abbrev caption_start_item : Item
@@ -359,7 +359,7 @@ module _ (breaking : Breaking) (forms : TableNode → Table → Type 0) (alike :
       let items = caption_start_item ∷ (f.items ++ caption_end_item ∷ []) in
       let marks : Marks = grammar.caption_begins ∷ (f.ms ++ grammar.paragraph_ends ∷ []) in
       let is : is_caption one ≡ true = ap html.is_caption_kind is_one.kind in
-      let twin' : OpenCell = record { kind = o.kind; place = o.place; least = o.least; blocks = f.back } in
+      let twin' : OpenCell = record { kind = o.kind; in_head = false; place = o.place; least = o.least; blocks = f.back } in
       let twin : TableCell = roll-TableCell twin' in
       let open_twin : out-TableCell twin ≡ twin' = out-roll-TableCell twin' in
       let top : o.place.top ≡ 0 = ap (λ (p : Place). p.top) is_one.place in
@@ -414,11 +414,11 @@ module _ (breaking : Breaking) (forms : TableNode → Table → Type 0) (alike :
         back = twin ∷ [];
         become = (
           subst (λ (d : OpenCell). BecomesCaption forms breaking cols f.flow d) (sym open_twin)
-              (record { kind = is_one.kind; place = is_one.place; least = is_one.least; blocks = f.become }),
+              (record { kind = is_one.kind; in_head = refl; place = is_one.place; least = is_one.least; blocks = f.become }),
           refl,
         );
         same = (
-          subst (λ (d : OpenCell). AreSameCell alike o d) (sym open_twin)
+          subst (λ (d : OpenCell). AreAlikeCell alike o d) (sym open_twin)
               (record { kind = refl; place = refl; least = refl; blocks = f.same }),
           tt,
         );

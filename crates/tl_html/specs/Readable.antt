@@ -32,7 +32,7 @@ HasColumns table layout = (depth : ℕ) × HasColumnsWithin depth table layout
 abbrev pub IsHtmlPage : Table → Layout → List ℕ → Type 0
 IsHtmlPage table layout bytes = IsUtf8 bytes × (chars bytes ≡ html_of table layout)
 
--- the bytes spell the same table, but for the numbers of tables
+-- the bytes spell the same table, but for the numbers of tables and their `thead` groups
 abbrev pub SpellsAlike : List ℕ → Breaking → Table → Type 0
 SpellsAlike bytes breaking table = (other : Table) × Spells bytes breaking other × AreAlike table other
 

@@ -2,7 +2,8 @@
 
 ghost use Rattle.tl_html.specs.Laws.{AFittingLayoutHasColumns, PageReadsBack};
 
-/// The page of a sound table reads back: it spells the table again, but for the numbers of tables.
+/// The page of a sound table reads back: it spells the table again, but for the numbers of tables and
+/// their `thead` groups.
 pub fn page_reads_back()
     ensures { PageReadsBack }
 {}

@@ -1,6 +1,6 @@
 //! Writes the HTML page of a table in a layout, with the widths of its columns. It knows no search and
 //! no certificate. Its one contract: the bytes are exactly those of the page's definition, which spell
-//! the same table again, but for the numbers of tables.
+//! the same table again, but for the numbers of tables and their `thead` groups.
 #![tactic(auto)]
 
 mod builder;

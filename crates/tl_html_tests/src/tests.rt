@@ -44,6 +44,7 @@ fn cell(
 ) -> TableCell {
     TableCell {
         kind,
+        in_head: false,
         place: Place {
             left,
             right,

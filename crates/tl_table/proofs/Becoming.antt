@@ -57,6 +57,7 @@ module _ (some more : TableNode → Table → Type 0) (weaker : (node : TableNod
   BecomeCaption-weaker cols (Some flow) (cell ∷ cells) become = (
     record {
       kind = become.0.kind;
+      in_head = become.0.in_head;
       place = become.0.place;
       least = become.0.least;
       blocks = BecomeContents-weaker flow (out-TableCell cell).blocks become.0.blocks;
@@ -76,6 +77,7 @@ module _ (some more : TableNode → Table → Type 0) (weaker : (node : TableNod
     captioned = BecomeCaption-weaker table.cols node.caption becomes.caption becomes.captioned;
     written = becomes.written;
     cells = BecomeCells-weaker _ becomes.written becomes.cells;
+    marked = becomes.marked;
     places = becomes.places;
     same = becomes.same;
     in_order = becomes.in_order;
@@ -158,8 +160,19 @@ module _ (breaking : Breaking) where
   caption_depth cols None cells become = (0, become)
   caption_depth cols (Some flow) [] become = absurd become
   caption_depth cols (Some flow) (cell ∷ cells) become =
-      let found = contents_depth flow (out-TableCell cell).blocks become.0.blocks in
-      (found.0, (record { kind = become.0.kind; place = become.0.place; least = become.0.least; blocks = found.1 }, become.1))
+      let found = contents_depth flow (out-TableCell cell).blocks become.0.blocks in (
+        found.0,
+        (
+          record {
+            kind = become.0.kind;
+            in_head = become.0.in_head;
+            place = become.0.place;
+            least = become.0.least;
+            blocks = found.1;
+          },
+          become.1,
+        ),
+      )
 
   -- what a tree becomes one level at a time, it becomes
   pub becomes_by : (node : TableNode) (table : Table) → BecomesBy (Becomes breaking) breaking (out-TableNode node)
@@ -184,6 +197,7 @@ module _ (breaking : Breaking) where
           cells = BecomeCells-weaker (BecomesWithin cells.0 breaking) (BecomesWithin depth breaking)
               (deeper cells.0 depth (omega arith)) breaking
               _ becomes.written cells.1;
+          marked = becomes.marked;
           places = becomes.places;
           same = becomes.same;
           in_order = becomes.in_order;

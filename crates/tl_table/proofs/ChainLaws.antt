@@ -7,8 +7,8 @@ use Rattle.std.proofs.lemmas.List.{take_all}
 use Rattle.std.proofs.lemmas.List.Sums.{sum_by-cons}
 use Rattle.std.proofs.lemmas.List.Elements.{recursion_from_All, All-from_recursion, All-get_or}
 use Rattle.tl_base.specs.declared.style.Style.{Style}
-use Rattle.tl_base.specs.declared.style.Style.TheVariants.{Plain, Compact, Frame}
-use Rattle.tl_base.specs.Style.{gap_of, edge_of}
+use Rattle.tl_base.specs.declared.style.Style.TheVariants.{Plain, Compact, Frame, Grid, Box}
+use Rattle.tl_base.specs.Style.{gap_of, edges_of}
 use Rattle.tl_grid.specs.Dropping.{IsPlaced}
 use Rattle.tl_base.specs.Sizes.{room, total}
 use Rattle.tl_base.specs.declared.chain.Chain.{Chain}
@@ -47,6 +47,8 @@ light_more : (style : Style) (width room left right from past rest many columns 
 light_more Plain width room left right from past rest many columns span wide ends some order light = omega arith
 light_more Compact width room left right from past rest many columns span wide ends some order light = omega arith
 light_more Frame width room left right from past rest many columns span wide ends some order light = omega arith
+light_more Grid width room left right from past rest many columns span wide ends some order light = omega arith
+light_more Box width room left right from past rest many columns span wide ends some order light = omega arith
 
 weighs_within : (style : Style) (cols : ℕ) (widths : List ℕ) (from : ℕ) (links : List Link) → from ≤ cols →
     AllByRecursion (IsWithinRoom (gap_of style) cols widths) links → AreSideBySide from links →
@@ -81,15 +83,17 @@ weighs_within style cols widths from (link ∷ links) inside each order =
 in_all : (style : Style) (weight many columns cols whole : ℕ) → weight + gap_of style * many ≤ whole + gap_of style * columns →
     1 ≤ many →
     many ≤ columns → columns ≤ cols →
-    weight + gap_of style * (many + (cols - columns) - 1) + 2 * edge_of style ≤ whole + gap_of style *
-    (cols - 1) + 2 * edge_of style
+    weight + gap_of style * (many + (cols - columns) - 1) + edges_of style ≤ whole + gap_of style *
+    (cols - 1) + edges_of style
 in_all Plain weight many columns cols whole light some few within = omega arith
 in_all Compact weight many columns cols whole light some few within = omega arith
 in_all Frame weight many columns cols whole light some few within = omega arith
+in_all Grid weight many columns cols whole light some few within = omega arith
+in_all Box weight many columns cols whole light some few within = omega arith
 
 links_within : (style : Style) (cols : ℕ) (widths : List ℕ) (links : List Link) → length widths ≡ cols → 0 < length links →
     AllByRecursion (IsWithinRoom (gap_of style) cols widths) links → AreSideBySide 0 links →
-    links_weight style cols links ≤ total (gap_of style) (edge_of style) widths
+    links_weight style cols links ≤ total (gap_of style) (edges_of style) widths
 links_within style cols widths links columns some each order =
     let far = weighs_within style cols widths 0 links (omega arith) each order in
     let whole = ap (sum_by (λ (size : ℕ). size)) (take_all cols widths (omega (arith, columns))) in
@@ -98,7 +102,7 @@ links_within style cols widths links columns some each order =
       in_all style (sum_by (λ link. link.width) links) (length links) (covered links) cols (ahead widths cols)
           (omega (arith, far.light))
           (omega arith) far.few (omega (arith, far.within)),
-      total-ahead (gap_of style) (edge_of style) widths (omega (arith, columns, far.few, far.within)),
+      total-ahead (gap_of style) (edges_of style) widths (omega (arith, columns, far.few, far.within)),
       ap (λ n. gap_of style * (n - 1)) columns,
       whole,
     )

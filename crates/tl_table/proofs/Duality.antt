@@ -10,7 +10,7 @@ use Rattle.std.proofs.lemmas.List.Sums.{sum_by-append, sum_by-cons}
 use Rattle.std.proofs.lemmas.Option.{slice_get_within, get_or_from_slice_get, slice_get-get_or, slice_get-map}
 use Rattle.std.proofs.lemmas.Bool.{cases_lt}
 use Rattle.tl_base.specs.declared.style.Style.{Style}
-use Rattle.tl_base.specs.Style.{gap_of, edge_of}
+use Rattle.tl_base.specs.Style.{gap_of, edges_of}
 use Rattle.tl_diff.specs.declared.paths.Arc.{Arc}
 use Rattle.tl_diff.specs.Paths.{arc_at, IsPath, IsHeaviest, path_weight}
 use Rattle.tl_diff.proofs.PathLaws.{IsHeaviest-further, IsHeaviest-along}
@@ -189,13 +189,13 @@ gives_room gap cols demands arcs f placed have heaviest widths at k demand named
 pub least_for : (style : Style) (cols : ℕ) (demands : List Demand) (arcs : List NumberedArc) (f : ℕ → ℕ) → 0 < cols →
     All (IsPlacedDemand cols) demands →
     HaveArcs (gap_of style) demands (length demands) arcs → ((k : ℕ) → k ≤ cols → IsHeaviest (plain arcs) k (f k)) →
-    IsLeastFor style cols demands (f cols + gap_of style * (cols - 1) + 2 * edge_of style)
+    IsLeastFor style cols demands (f cols + gap_of style * (cols - 1) + edges_of style)
 least_for style cols demands arcs f some placed have heaviest = record {
   attained = (widths, gives, total_is);
   never_less = λ other give. omega (
     arith,
     weight_within other give,
-    total-ahead gap edge other (omega (arith, give.columns)),
+    total-ahead gap edges other (omega (arith, give.columns)),
     columns other give.columns,
     all_ahead other
         (omega (arith, give.columns)),
@@ -204,8 +204,8 @@ least_for style cols demands arcs f some placed have heaviest = record {
   gap : ℕ
   gap = gap_of style
 
-  edge : ℕ
-  edge = edge_of style
+  edges : ℕ
+  edges = edges_of style
 
   widths : List ℕ
   widths = sizes_between f cols
@@ -239,10 +239,10 @@ least_for style cols demands arcs f some placed have heaviest = record {
             (meets_arcs gap cols demands arcs other placed have give) reached.1.0,
       )
 
-  total_is : total gap edge widths ≡ f cols + gap * (cols - 1) + 2 * edge
+  total_is : total gap edges widths ≡ f cols + gap * (cols - 1) + edges
   total_is = omega (
     arith,
-    total-ahead gap edge widths (omega (arith, gives.columns)),
+    total-ahead gap edges widths (omega (arith, gives.columns)),
     columns widths gives.columns,
     all_ahead widths
         (omega (arith, gives.columns)),

@@ -20,7 +20,7 @@ use Rattle.tl_tree.specs.declared.node.TableNode.{TableNode, out-TableNode}
 use Rattle.tl_table.specs.declared.cell.Table.{Table, out-Table}
 use Rattle.tl_table.specs.declared.cell.TableCell.{TableCell}
 use Rattle.tl_table.specs.Formed.{OpenNode, Becomes, BecomesBy, BecomeCaption, caption_rows, cells_of_group, cells_written}
-use Rattle.tl_table.specs.Formed.{group_shape, lowered}
+use Rattle.tl_table.specs.Formed.{group_shape, lowered, marks_written}
 use Rattle.tl_table.specs.Formed.{shape_of, span_of}
 use Rattle.tl_table.specs.Sound.{place_of}
 use Rattle.tl_table.specs.Formed.{Writes, slot_number}
@@ -64,7 +64,8 @@ pub made_table : (breaking : Breaking) (node : TableNode) (table : Table) (grid 
     (down cols : ℕ) → AreSound (outline node) → HasGrid (shape_of (out-TableNode node)) grid →
     down ≡ caption_rows (out-TableNode node).caption → cols ≡ max grid.cols down →
     BecomeCaption (Becomes breaking) breaking cols (out-TableNode node).caption caption →
-    places ≡ map (lowered down) grid.places → Writes breaking (cells_written (out-TableNode node)) places [] written →
+    places ≡ map (lowered down) grid.places →
+    Writes breaking (cells_written (out-TableNode node)) (marks_written (out-TableNode node)) places [] written →
     cells ≡ caption ++ written → IsPermutation cells sorted → IsNonDecreasingBy slot_number sorted →
     out-Table table ≡ record { number = (out-TableNode node).number; cols = cols; rows = grid.rows + down; cells = sorted } →
     Becomes breaking node table
@@ -80,6 +81,7 @@ made_table breaking node table grid places caption written cells sorted down col
       captioned = captioned;
       written = writes.more;
       cells = writes.cells;
+      marked = writes.marked;
       places = placed;
       same = subst (λ (all : List TableCell). IsPermutation all sorted)
           (both ∙ ap (λ (rest : List TableCell). caption ++ rest) writes.joined) moved;

@@ -6,8 +6,8 @@ use Rattle.std.specs.List.{All}
 use Rattle.std.proofs.lemmas.List.{length-map}
 use Rattle.tl_base.specs.declared.limits.TheConstants.{MAX_COLUMNS}
 use Rattle.tl_base.specs.declared.style.Style.{Style}
-use Rattle.tl_base.specs.declared.style.Style.TheVariants.{Plain, Compact, Frame}
-use Rattle.tl_base.specs.Style.{gap_of, edge_of}
+use Rattle.tl_base.specs.declared.style.Style.TheVariants.{Plain, Compact, Frame, Grid, Box}
+use Rattle.tl_base.specs.Style.{gap_of, edges_of}
 use Rattle.tl_diff.specs.declared.paths.Arc.{Arc}
 use Rattle.tl_diff.specs.Paths.{IsPath, IsHeaviest, path_weight}
 use Rattle.tl_table.specs.declared.widest.Demand.{Demand}
@@ -39,33 +39,33 @@ IsFound-made style cols demands arcs alone out w some demanded have same each la
   last = last;
 }
 
--- the weight, by the gap and the edge of the style
-in_all : (style : Style) (cols w gap edge : ℕ) → gap ≡ gap_of style → edge ≡ edge_of style →
-    w + gap_of style * (cols - 1) + 2 * edge_of style ≡ w + gap * (cols - 1) + 2 * edge
-in_all style cols w gap edge is also = ap (λ g. w + g * (cols - 1) + 2 * edge_of style) (sym is) ∙ ap
-    (λ e. w + gap * (cols - 1) + 2 * e) (sym also)
+-- the weight, by the gap and the edges of the style
+in_all : (style : Style) (cols w gap edges : ℕ) → gap ≡ gap_of style → edges ≡ edges_of style →
+    w + gap_of style * (cols - 1) + edges_of style ≡ w + gap * (cols - 1) + edges
+in_all style cols w gap edges is also = ap (λ g. w + g * (cols - 1) + edges_of style) (sym is) ∙ ap
+    (λ e. w + gap * (cols - 1) + e) (sym also)
 
-pub least_found : (style : Style) (cols : ℕ) (demands : List Demand) (arcs : List NumberedArc) (out : List ℕ) (w gap edge : ℕ) →
+pub least_found : (style : Style) (cols : ℕ) (demands : List Demand) (arcs : List NumberedArc) (out : List ℕ) (w gap edges : ℕ) →
     IsFound style cols demands arcs out w →
-    gap ≡ gap_of style → edge ≡ edge_of style → IsLeastFor style cols demands (w + gap * (cols - 1) + 2 * edge)
-least_found style cols demands arcs out w gap edge found is also =
+    gap ≡ gap_of style → edges ≡ edges_of style → IsLeastFor style cols demands (w + gap * (cols - 1) + edges)
+least_found style cols demands arcs out w gap edges found is also =
     subst (IsLeastFor style cols demands)
-    (ap (λ v. v + gap_of style * (cols - 1) + 2 * edge_of style) (sym found.last) ∙ in_all style cols w gap edge is also)
+    (ap (λ v. v + gap_of style * (cols - 1) + edges_of style) (sym found.last) ∙ in_all style cols w gap edges is also)
     (least_for style cols demands arcs (slice_index out) found.some found.demanded.placed found.have found.each)
 
 pub row_found : (style : Style) (cols : ℕ) (demands : List Demand) (arcs : List NumberedArc) (alone : List Arc)
     (out path numbers : List ℕ)
-    (w gap edge : ℕ) → IsFound style cols demands arcs out w →
+    (w gap edges : ℕ) → IsFound style cols demands arcs out w →
     alone ≡ plain arcs → IsPath alone 0 path cols → path_weight alone path ≡ w → numbers ≡ map (demand_number arcs) path →
     0 < length numbers →
-    gap ≡ gap_of style → edge ≡ edge_of style → IsRowOf style cols demands numbers (w + gap * (cols - 1) + 2 * edge)
-row_found style cols demands arcs alone out path numbers w gap edge found same along weighs named some is also =
+    gap ≡ gap_of style → edges ≡ edges_of style → IsRowOf style cols demands numbers (w + gap * (cols - 1) + edges)
+row_found style cols demands arcs alone out path numbers w gap edges found same along weighs named some is also =
     let goes : IsPath (plain arcs) 0 path cols = subst (λ those. IsPath those 0 path cols) same along in
     let heavy : path_weight (plain arcs) path ≡ w = ap (λ those. path_weight those path) (sym same) ∙ weighs in
     let long : 0 < length path = omega (arith, ap length named, length-map path (demand_number arcs)) in
-    subst (λ those. IsRowOf style cols demands those (w + gap * (cols - 1) + 2 * edge)) (sym named)
+    subst (λ those. IsRowOf style cols demands those (w + gap * (cols - 1) + edges)) (sym named)
     (subst (IsRowOf style cols demands (map (demand_number arcs) path))
-    (ap (λ v. v + gap_of style * (cols - 1) + 2 * edge_of style) heavy ∙ in_all style cols w gap edge is also)
+    (ap (λ v. v + gap_of style * (cols - 1) + edges_of style) heavy ∙ in_all style cols w gap edges is also)
     (row_of_path style cols demands arcs path found.demanded.placed found.have goes long))
 
 no_weight : (arcs : List Arc) (path : List ℕ) → length path ≤ 0 → path_weight arcs path ≡ 0
@@ -75,7 +75,7 @@ no_weight arcs (i ∷ is) none = absurd (omega arith)
 last_alone : (style : Style) (cols : ℕ) (demands : List Demand) (arcs : List NumberedArc) (number : ℕ) (found : Option Demand) →
     slice_get demands number ≡ found → IsSomeAnd found (λ demand. demand.left + 1 ≡ cols) → 0 < cols →
     All (IsPlacedDemand cols) demands → HaveArcs (gap_of style) demands (length demands) arcs → IsHeaviest (plain arcs) cols 0 →
-    IsRowOf style cols demands (number ∷ []) (0 + gap_of style * (cols - 1) + 2 * edge_of style)
+    IsRowOf style cols demands (number ∷ []) (0 + gap_of style * (cols - 1) + edges_of style)
 last_alone style cols demands arcs number None named last some placed have heaviest = absurd last
 last_alone style cols demands arcs number (Some demand) named last some placed have heaviest =
     row_of_last style cols demands arcs number demand some placed have heaviest named last
@@ -86,19 +86,19 @@ nil_of_short (x ∷ xs) short = absurd (omega arith)
 
 pub last_found : (style : Style) (cols : ℕ) (demands : List Demand) (arcs : List NumberedArc) (alone : List Arc)
     (out path before numbers : List ℕ)
-    (w gap edge number : ℕ) → IsFound style cols demands arcs out w →
+    (w gap edges number : ℕ) → IsFound style cols demands arcs out w →
     alone ≡ plain arcs → path_weight alone path ≡ w → before ≡ map (demand_number arcs) path → length before ≤ 0 →
     numbers ≡ before ++ number ∷ [] →
     IsSomeAnd (slice_get demands number) (λ demand. demand.left + 1 ≡ cols) →
-    gap ≡ gap_of style → edge ≡ edge_of style → IsRowOf style cols demands numbers (w + gap * (cols - 1) + 2 * edge)
-last_found style cols demands arcs alone out path before numbers w gap edge number found same weighs named none pushed last is
+    gap ≡ gap_of style → edges ≡ edges_of style → IsRowOf style cols demands numbers (w + gap * (cols - 1) + edges)
+last_found style cols demands arcs alone out path before numbers w gap edges number found same weighs named none pushed last is
     also =
     let empty : w ≡ 0 = sym weighs
     ∙ no_weight alone path (omega (arith, ap length named, length-map path (demand_number arcs))) in
     let lone : numbers ≡ number ∷ [] = pushed ∙ ap (λ prefix. prefix ++ number ∷ []) (nil_of_short before none) in
-    subst (λ those. IsRowOf style cols demands those (w + gap * (cols - 1) + 2 * edge)) (sym lone)
+    subst (λ those. IsRowOf style cols demands those (w + gap * (cols - 1) + edges)) (sym lone)
     (subst (IsRowOf style cols demands (number ∷ []))
-    (ap (λ v. v + gap_of style * (cols - 1) + 2 * edge_of style) (sym empty) ∙ in_all style cols w gap edge is also)
+    (ap (λ v. v + gap_of style * (cols - 1) + edges_of style) (sym empty) ∙ in_all style cols w gap edges is also)
     (last_alone style cols demands arcs number (slice_get demands number) refl last found.some found.demanded.placed found.have
     (subst (IsHeaviest (plain arcs) cols) (sym found.last ∙ empty) (found.each cols (omega arith)))))
 
@@ -110,12 +110,16 @@ some_of_not_nil [] not_nil = absurd (not_nil refl)
 some_of_not_nil (x ∷ xs) not_nil = omega arith
 
 -- a chain is little wider than all demands together
-pub small_found : (style : Style) (cols w sum gap edge : ℕ) → cols ≤ MAX_COLUMNS → w ≤ sum → gap ≡ gap_of style →
-    edge ≡ edge_of style →
-    w + gap * (cols - 1) + 2 * edge ≤ sum + most_gaps
-small_found Plain cols w sum gap edge few light is also = let g : gap * (cols - 1) ≡ 2 * (cols - 1) =
+pub small_found : (style : Style) (cols w sum gap edges : ℕ) → cols ≤ MAX_COLUMNS → w ≤ sum → gap ≡ gap_of style →
+    edges ≡ edges_of style →
+    w + gap * (cols - 1) + edges ≤ sum + most_gaps
+small_found Plain cols w sum gap edges few light is also = let g : gap * (cols - 1) ≡ 2 * (cols - 1) =
     ap (λ k. k * (cols - 1)) is in omega arith
-small_found Compact cols w sum gap edge few light is also = let g : gap * (cols - 1) ≡ 1 * (cols - 1) =
+small_found Compact cols w sum gap edges few light is also = let g : gap * (cols - 1) ≡ 1 * (cols - 1) =
     ap (λ k. k * (cols - 1)) is in omega arith
-small_found Frame cols w sum gap edge few light is also = let g : gap * (cols - 1) ≡ 1 * (cols - 1) =
+small_found Frame cols w sum gap edges few light is also = let g : gap * (cols - 1) ≡ 1 * (cols - 1) =
+    ap (λ k. k * (cols - 1)) is in omega arith
+small_found Grid cols w sum gap edges few light is also = let g : gap * (cols - 1) ≡ 1 * (cols - 1) =
+    ap (λ k. k * (cols - 1)) is in omega arith
+small_found Box cols w sum gap edges few light is also = let g : gap * (cols - 1) ≡ 1 * (cols - 1) =
     ap (λ k. k * (cols - 1)) is in omega arith

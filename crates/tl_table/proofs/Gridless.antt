@@ -11,7 +11,6 @@ use Rattle.tl_base.specs.Returned.{IsMemoryOr, ReturnsError}
 use Rattle.tl_base.specs.declared.breaking.Breaking.{Breaking}
 use Rattle.tl_base.proofs.Members.{AllByRecursion-append}
 use Rattle.tl_grid.specs.declared.error.GridError.{GridError}
-use Rattle.tl_grid.specs.declared.error.GridError.TheVariants as causes
 use Rattle.tl_grid.specs.declared.shape.Grid.{Grid}
 use Rattle.tl_grid.specs.Form.{HasGrid, LacksGrid}
 use Rattle.tl_grid.proofs.Results.{no_cause, one_cause}

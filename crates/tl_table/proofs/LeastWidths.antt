@@ -5,7 +5,7 @@ use Rattle.std.proofs.lemmas.List.{length-replicate}
 use Rattle.std.proofs.lemmas.List.Sums.{sum_by-cons}
 use Rattle.std.proofs.lemmas.List.Elements.{recursion_from_All, All-from_recursion}
 use Rattle.tl_base.specs.declared.style.Style.{Style}
-use Rattle.tl_base.specs.Style.{gap_of, row_gap_of, edge_of}
+use Rattle.tl_base.specs.Style.{gap_of, row_gap_of, edges_of}
 use Rattle.tl_base.proofs.Zips.{AllZip-weaker}
 use Rattle.tl_grid.specs.Dropping.{IsPlaced}
 use Rattle.tl_base.specs.Sizes.{room, total}
@@ -115,7 +115,7 @@ pub some_layout : (style : Style) (table : OpenTable) (demands : List Demand) (w
     All (λ cell. IsPlaced table.cols table.rows (place_of cell)) table.cells →
     AreDemandsOf style table.cells demands → GiveRooms (gap_of style) table.cols demands widths →
     (depth : ℕ) × (height : ℕ) × (layout : OpenLayout) ×
-    FitsBy (FitsWithin depth style) style table (total (gap_of style) (edge_of style) widths) height layout
+    FitsBy (FitsWithin depth style) style table (total (gap_of style) (edges_of style) widths) height layout
 some_layout style table demands widths placed those give = (
   held.depth,
   total_height style layout,

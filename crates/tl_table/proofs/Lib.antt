@@ -23,6 +23,8 @@ pub mod TreeParts
 pub mod SoundNodes
 pub mod Becoming
 pub mod Gridless
+pub mod HeadLaws
+mod HeadExamples
 pub mod Writing
 pub mod Formed
 pub mod SpellableTables

@@ -11,7 +11,7 @@ use Rattle.std.proofs.lemmas.List.Sums.{sum_by-cons}
 use Rattle.std.proofs.lemmas.List.Elements.{Contains-append_left, Contains-append_right}
 use Rattle.std.proofs.lemmas.Option.{slice_get_within, slice_get_read, slice_get-get_or}
 use Rattle.tl_base.specs.declared.style.Style.{Style}
-use Rattle.tl_base.specs.Style.{gap_of, edge_of}
+use Rattle.tl_base.specs.Style.{gap_of, edges_of}
 use Rattle.tl_base.proofs.Zips.{AllZip-push}
 use Rattle.tl_base.specs.declared.chain.Chain.{Chain}
 use Rattle.tl_base.specs.declared.chain.Entry.{Entry}
@@ -139,10 +139,10 @@ are_like demands from (number ∷ numbers) (demand ∷ picked) (link ∷ links) 
 weigh_alike : (style : Style) (cols : ℕ) (picked : List Demand) (links : List Link) → AreLike 0 picked links →
     demands_weight style cols picked ≡ links_weight style cols links
 weigh_alike style cols picked links alike =
-    ap (λ w. w + gap_of style * (length picked + (cols - columns_demanded picked) - 1) + 2 * edge_of style) (sym alike.wide)
-    ∙ ap (λ n. sum_by (λ link. link.width) links + gap_of style * (n + (cols - columns_demanded picked) - 1) + 2 * edge_of style)
+    ap (λ w. w + gap_of style * (length picked + (cols - columns_demanded picked) - 1) + edges_of style) (sym alike.wide)
+    ∙ ap (λ n. sum_by (λ link. link.width) links + gap_of style * (n + (cols - columns_demanded picked) - 1) + edges_of style)
     (sym alike.many)
-    ∙ ap (λ n. sum_by (λ link. link.width) links + gap_of style * (length links + (cols - n) - 1) + 2 * edge_of style)
+    ∙ ap (λ n. sum_by (λ link. link.width) links + gap_of style * (length links + (cols - n) - 1) + edges_of style)
     (sym alike.covers)
 
 -- ---- the chain, in all

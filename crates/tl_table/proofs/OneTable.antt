@@ -1,5 +1,5 @@
 -- The same trees become the same table, wherever in memory nested tables lie.
-use Rattle.std.proofs.Common.{◌≡◌, ◌∙◌, ℕ, zero, suc, ◌+◌, ◌<◌, ◌≤◌, max, Option, Some, None, List, [], ◌∷◌, ◌++◌, inl, inr}
+use Rattle.std.proofs.Common.{◌≡◌, ◌∙◌, ℕ, zero, suc, ◌+◌, ◌<◌, ◌≤◌, Bool, max, Option, Some, None, List, [], ◌∷◌, ◌++◌, inl, inr}
 use Rattle.std.proofs.Common.{length, map, get_or}
 use Rattle.std.proofs.Common.{Contains, Result, Ok, Err, IfOk, IfErr, refl, sym, ap, subst, ⊎_elim, arith, alloc_error}
 use Rattle.std.specs.List.{AllPairs, AllZip, AllByRecursion, flat_map}
@@ -37,10 +37,10 @@ use Rattle.tl_table.specs.Tables.{OpenTable, OpenContent}
 use Rattle.tl_table.specs.Formed.{OpenNode, OpenBlock, BecomesContent, BecomeContents, BecomeCells, BecomeCaption, BecomesBy}
 use Rattle.tl_table.specs.Formed.{BecomesWithin, Becomes}
 use Rattle.tl_table.specs.Formed.{broken, caption_rows, cells_of_group, cells_written, group_shape, is_foot, header_kind, lowered}
-use Rattle.tl_table.specs.Formed.{shape_of, span_of}
+use Rattle.tl_table.specs.Formed.{is_thead, marks_of_group, marks_of_groups, shape_of, span_of}
 use Rattle.tl_table.specs.Refused.{HasNoGrid, numbered_shapes}
 use Rattle.tl_table.specs.Same.{AreSameContent, AreSameCell, AreSameBy, AreSameWithin, AreSame, ReturnsTable}
-use Rattle.tl_table.specs.Sound.{ComesBefore, place_of}
+use Rattle.tl_table.specs.Tables.{ComesBefore, is_in_head, place_of}
 use Rattle.tl_table.proofs.Gridless.{becomes_gridded, not_among}
 use Rattle.tl_table.proofs.SoundParts.{each_joined}
 
@@ -159,25 +159,27 @@ module _ (same : TableNode → TableNode → Type 0) (some other : TableNode →
   are_twins c d = AreSameCell twins (out-TableCell c) (out-TableCell d)
 
   cells_twins : (xs ys : List CellNode) (cs ds : List TableCell) → AreSameRow same xs ys → BecomeCells some breaking xs cs →
-      BecomeCells other breaking ys ds → map place_of cs ≡ map place_of ds →
+      BecomeCells other breaking ys ds → map is_in_head cs ≡ map is_in_head ds → map place_of cs ≡ map place_of ds →
       AllZip (λ c d. AreSameCell twins (out-TableCell c) (out-TableCell d)) cs ds
-  cells_twins [] [] [] [] is first second places = tt
-  cells_twins [] [] [] (d ∷ ds) is first second places = absurd second
-  cells_twins [] [] (c ∷ cs) ds is first second places = absurd first
-  cells_twins [] (y ∷ ys) cs ds is first second places = absurd is
-  cells_twins (x ∷ xs) [] cs ds is first second places = absurd is
-  cells_twins (x ∷ xs) (y ∷ ys) [] ds is first second places = absurd first
-  cells_twins (x ∷ xs) (y ∷ ys) (c ∷ cs) [] is first second places = absurd second
-  cells_twins (x ∷ xs) (y ∷ ys) (c ∷ cs) (d ∷ ds) is first second places = (
+  cells_twins [] [] [] [] is first second marks places = tt
+  cells_twins [] [] [] (d ∷ ds) is first second marks places = absurd second
+  cells_twins [] [] (c ∷ cs) ds is first second marks places = absurd first
+  cells_twins [] (y ∷ ys) cs ds is first second marks places = absurd is
+  cells_twins (x ∷ xs) [] cs ds is first second marks places = absurd is
+  cells_twins (x ∷ xs) (y ∷ ys) [] ds is first second marks places = absurd first
+  cells_twins (x ∷ xs) (y ∷ ys) (c ∷ cs) [] is first second marks places = absurd second
+  cells_twins (x ∷ xs) (y ∷ ys) (c ∷ cs) (d ∷ ds) is first second marks places = (
     record {
       kind = first.0.kind ∙ ap header_kind is.0.head ∙ sym second.0.kind;
+      in_head = let here : is_in_head c ≡ is_in_head d = cc in here;
       place = let here : place_of c ≡ place_of d = cc in here;
       least = first.0.least ∙ is.0.least ∙ sym second.0.least;
       blocks = contents_twins (out-CellNode x).flow (out-CellNode y).flow (out-TableCell c).blocks
           (out-TableCell d).blocks is.0.flow first.0.blocks
           second.0.blocks;
     },
-    cells_twins xs ys cs ds is.1 first.1 second.1 (let rest : map place_of cs ≡ map place_of ds = cc in rest),
+    cells_twins xs ys cs ds is.1 first.1 second.1 (let rest : map is_in_head cs ≡ map is_in_head ds = cc in rest)
+        (let rest : map place_of cs ≡ map place_of ds = cc in rest),
   )
 
   caption_twins : (m n : ℕ) (one two : Option (List Block)) (cs ds : List TableCell) → m ≡ n → AreSameCaption same one two →
@@ -194,6 +196,7 @@ module _ (same : TableNode → TableNode → Type 0) (some other : TableNode →
   caption_twins m n (Some one) (Some two) (c ∷ cs) (d ∷ ds) wide is first second = (
     record {
       kind = first.0.kind ∙ sym second.0.kind;
+      in_head = first.0.in_head ∙ sym second.0.in_head;
       place = first.0.place ∙ ap (λ cols. let p : Place = record { left = 0; right = cols; top = 0; bottom = 1 } in
           p) wide ∙ sym second.0.place;
       least = first.0.least ∙ sym second.0.least;
@@ -239,6 +242,36 @@ module _ (same : TableNode → TableNode → Type 0) where
       (rows_same (out-GroupNode x).rows (out-GroupNode y).rows is.0.rows)
       )
       ∙ ap (λ (shapes : List ShapeGroup). group_shape y ∷ shapes) (groups_same xs ys is.1)
+
+  row_marks_same : (mark : Bool) (xs ys : List CellNode) → AreSameRow same xs ys →
+      map (λ (cell : CellNode). mark) xs ≡ map (λ (cell : CellNode). mark) ys
+  row_marks_same mark [] [] is = refl
+  row_marks_same mark [] (y ∷ ys) is = absurd is
+  row_marks_same mark (x ∷ xs) [] is = absurd is
+  row_marks_same mark (x ∷ xs) (y ∷ ys) is = ap (λ (marks : List Bool). mark ∷ marks) (row_marks_same mark xs ys is.1)
+
+  rows_marks_same : (mark : Bool) (xs ys : List (List CellNode)) → AllZip (AreSameRow same) xs ys →
+      flat_map (λ (row : List CellNode). map (λ (cell : CellNode). mark) row) xs ≡
+      flat_map (λ (row : List CellNode). map (λ (cell : CellNode). mark) row) ys
+  rows_marks_same mark [] [] is = refl
+  rows_marks_same mark [] (y ∷ ys) is = absurd is
+  rows_marks_same mark (x ∷ xs) [] is = absurd is
+  rows_marks_same mark (x ∷ xs) (y ∷ ys) is =
+      ap (λ (marks : List Bool). marks ++ flat_map (λ (row : List CellNode). map (λ (cell : CellNode). mark) row) xs)
+      (row_marks_same mark x y is.0)
+      ∙ ap (λ (marks : List Bool). map (λ (cell : CellNode). mark) y ++ marks) (rows_marks_same mark xs ys is.1)
+
+  marks_same : (xs ys : List GroupNode) → AllZip (λ g h. AreSameGroup same (out-GroupNode g) (out-GroupNode h)) xs ys →
+      marks_of_groups xs ≡ marks_of_groups ys
+  marks_same [] [] is = refl
+  marks_same [] (y ∷ ys) is = absurd is
+  marks_same (x ∷ xs) [] is = absurd is
+  marks_same (x ∷ xs) (y ∷ ys) is =
+      ap (λ (marks : List Bool). marks ++ marks_of_groups xs)
+      (rows_marks_same (is_thead (out-GroupNode x).part) (out-GroupNode x).rows (out-GroupNode y).rows is.0.rows
+      ∙ ap (λ part. flat_map (λ (row : List CellNode). map (λ (cell : CellNode). is_thead part) row) (out-GroupNode y).rows)
+      is.0.part)
+      ∙ ap (λ (marks : List Bool). marks_of_group (out-GroupNode y) ++ marks) (marks_same xs ys is.1)
 
   row_cells_same : (xs ys : List (List CellNode)) → AllZip (AreSameRow same) xs ys →
       AreSameRow same (flat_map (λ (row : List CellNode). row) xs) (flat_map (λ (row : List CellNode). row) ys)
@@ -290,7 +323,7 @@ module _ (same : TableNode → TableNode → Type 0) (some other : TableNode →
         is.caption first.captioned
         second.captioned)
         (cells_twins same some other twins each breaking (cells_written a) (cells_written b) first.written second.written
-        (group_cells_same same a.groups b.groups is.groups) first.cells second.cells places))
+        (group_cells_same same a.groups b.groups is.groups) first.cells second.cells marks places))
         first.same second.same first.in_order second.in_order;
   } where
     grids : first.grid ≡ second.grid
@@ -303,6 +336,9 @@ module _ (same : TableNode → TableNode → Type 0) (some other : TableNode →
     cols : s.cols ≡ t.cols
     cols = first.cols ∙ ap (λ (g : Grid). max g.cols (caption_rows a.caption)) grids ∙ ap (max second.grid.cols)
         downs ∙ sym second.cols
+
+    marks : map is_in_head first.written ≡ map is_in_head second.written
+    marks = first.marked ∙ marks_same same a.groups b.groups is.groups ∙ sym second.marked
 
     places : map place_of first.written ≡ map place_of second.written
     places = first.places ∙ ap (λ n. map (lowered n) first.grid.places) downs ∙ ap

@@ -6,7 +6,7 @@ use Rattle.std.specs.List.{AllZip, AllByRecursion, flat_map}
 use Rattle.std.proofs.lemmas.Bool.{cases_lt}
 use Rattle.std.proofs.lemmas.List.Concat.{flat_map-cons}
 use Rattle.tl_base.specs.declared.style.Style.{Style}
-use Rattle.tl_base.specs.Style.{gap_of, edge_of}
+use Rattle.tl_base.specs.Style.{gap_of, edges_of}
 use Rattle.tl_base.proofs.Zips.{AllZip-weaker}
 use Rattle.tl_base.proofs.Members.{AllByRecursion-append}
 use Rattle.tl_base.specs.Sizes.{total}
@@ -199,7 +199,7 @@ column_of_width table style w least some = let one = least.attained in go (out-T
       ),
     ))
       where
-        none : (widths : List ℕ) → length widths ≡ 0 → total (gap_of style) (edge_of style) widths ≤ 0
+        none : (widths : List ℕ) → length widths ≡ 0 → total (gap_of style) (edges_of style) widths ≤ 0
         none [] empty = omega arith
         none (width ∷ widths) empty = absurd (omega arith)
 

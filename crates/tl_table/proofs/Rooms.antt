@@ -33,9 +33,9 @@ room-ends gap sizes from past order =
     omega (arith, sum-sum_by (slice_range sizes from past), whole, rest, split)
 
 -- the total of sizes is all that lies ahead of the end, the gaps and the edges
-pub total-ahead : (gap edge : ℕ) (sizes : List ℕ) → 0 < length sizes →
-    total gap edge sizes ≡ sum_by (λ size. size) sizes + gap * (length sizes - 1) + 2 * edge
-total-ahead gap edge [] some = absurd (omega arith)
-total-ahead gap edge (size ∷ sizes) some =
+pub total-ahead : (gap edges : ℕ) (sizes : List ℕ) → 0 < length sizes →
+    total gap edges sizes ≡ sum_by (λ size. size) sizes + gap * (length sizes - 1) + edges
+total-ahead gap edges [] some = absurd (omega arith)
+total-ahead gap edges (size ∷ sizes) some =
     let n : length (size ∷ sizes) - 1 ≡ length sizes = omega arith in
     omega (arith, ap (λ k. gap * k) n, sum-sum_by sizes, sum_by-cons (λ (one : ℕ). one) size sizes)

@@ -7,8 +7,8 @@ use Rattle.std.proofs.lemmas.List.{length-map}
 use Rattle.std.proofs.lemmas.List.Sums.{sum_by-cons}
 use Rattle.std.proofs.lemmas.Option.{slice_get_within, get_or_from_slice_get}
 use Rattle.tl_base.specs.declared.style.Style.{Style}
-use Rattle.tl_base.specs.declared.style.Style.TheVariants.{Plain, Compact, Frame}
-use Rattle.tl_base.specs.Style.{gap_of, edge_of}
+use Rattle.tl_base.specs.declared.style.Style.TheVariants.{Plain, Compact, Frame, Grid, Box}
+use Rattle.tl_base.specs.Style.{gap_of, edges_of}
 use Rattle.tl_diff.specs.Paths.{arc_at, IsPath, IsHeaviest, path_weight}
 use Rattle.tl_table.specs.declared.widest.Demand.{Demand}
 use Rattle.tl_table.specs.declared.widest.NumberedArc.{NumberedArc}
@@ -34,6 +34,8 @@ weigh_more : (style : Style) (widths many weight columns width arc span : ℕ) �
 weigh_more Plain widths many weight columns width arc span before is some = omega arith
 weigh_more Compact widths many weight columns width arc span before is some = omega arith
 weigh_more Frame widths many weight columns width arc span before is some = omega arith
+weigh_more Grid widths many weight columns width arc span before is some = omega arith
+weigh_more Box widths many weight columns width arc span before is some = omega arith
 
 -- an arc before what follows a path from its end
 follows_more : (style : Style) (cols : ℕ) (demands : List Demand) (arcs : List NumberedArc) (from i : ℕ) (is : List ℕ)
@@ -103,18 +105,20 @@ follows_path style cols demands arcs from (i ∷ is) past placed have path =
 weighs_in_all : (style : Style) (widths many weight columns cols : ℕ) →
     widths + gap_of style * many ≡ weight + gap_of style * columns → 1 ≤ many →
     many ≤ columns → columns ≤ cols →
-    weight + gap_of style * (cols - 1) + 2 * edge_of style ≡ widths + gap_of style *
-    (many + (cols - columns) - 1) + 2 * edge_of style
+    weight + gap_of style * (cols - 1) + edges_of style ≡ widths + gap_of style *
+    (many + (cols - columns) - 1) + edges_of style
 weighs_in_all Plain widths many weight columns cols is some few within = omega arith
 weighs_in_all Compact widths many weight columns cols is some few within = omega arith
 weighs_in_all Frame widths many weight columns cols is some few within = omega arith
+weighs_in_all Grid widths many weight columns cols is some few within = omega arith
+weighs_in_all Box widths many weight columns cols is some few within = omega arith
 
 -- a path with an arc names demands in a row, which weigh what it does
 pub row_of_path : (style : Style) (cols : ℕ) (demands : List Demand) (arcs : List NumberedArc) (is : List ℕ) →
     All (IsPlacedDemand cols) demands →
     HaveArcs (gap_of style) demands (length demands) arcs → IsPath (plain arcs) 0 is cols → 0 < length is →
     IsRowOf style cols demands (map (demand_number arcs) is) (path_weight (plain arcs) is + gap_of style *
-    (cols - 1) + 2 * edge_of style)
+    (cols - 1) + edges_of style)
 row_of_path style cols demands arcs is placed have path some =
     let row = follows_path style cols demands arcs 0 is cols placed have path in record {
       some = omega (arith, length-map is (demand_number arcs));
@@ -126,10 +130,12 @@ row_of_path style cols demands arcs is placed have path some =
     }
 
 weighs_alone : (style : Style) (cols width : ℕ) → 0 < cols → width ≡ 0 →
-    0 + gap_of style * (cols - 1) + 2 * edge_of style ≡ width + gap_of style * (1 + (cols - 1) - 1) + 2 * edge_of style
+    0 + gap_of style * (cols - 1) + edges_of style ≡ width + gap_of style * (1 + (cols - 1) - 1) + edges_of style
 weighs_alone Plain cols width some none = omega arith
 weighs_alone Compact cols width some none = omega arith
 weighs_alone Frame cols width some none = omega arith
+weighs_alone Grid cols width some none = omega arith
+weighs_alone Box cols width some none = omega arith
 
 -- where no arc is on a heaviest path the demand of the last column alone is a row that weighs as much
 pub row_of_last : (style : Style) (cols : ℕ) (demands : List Demand) (arcs : List NumberedArc) (k : ℕ) (demand : Demand) →
@@ -137,14 +143,14 @@ pub row_of_last : (style : Style) (cols : ℕ) (demands : List Demand) (arcs : L
     All (IsPlacedDemand cols) demands →
     HaveArcs (gap_of style) demands (length demands) arcs → IsHeaviest (plain arcs) cols 0 → slice_get demands k ≡ Some demand →
     demand.left + 1 ≡ cols →
-    IsRowOf style cols demands (k ∷ []) (0 + gap_of style * (cols - 1) + 2 * edge_of style)
+    IsRowOf style cols demands (k ∷ []) (0 + gap_of style * (cols - 1) + edges_of style)
 row_of_last style cols demands arcs k demand some placed have heaviest named last = record {
   some = omega arith;
   picked = demand ∷ [];
   named = (named, tt);
   in_row = (omega arith, tt);
   weighed = weighs_alone style cols (sum_by (λ one. one.width) (demand ∷ [])) some (omega (arith, width, empty)) ∙
-      ap (λ c. sum_by (λ one. one.width) (demand ∷ []) + gap_of style * (1 + (cols - c) - 1) + 2 * edge_of style) (sym covers);
+      ap (λ c. sum_by (λ one. one.width) (demand ∷ []) + gap_of style * (1 + (cols - c) - 1) + edges_of style) (sym covers);
 } where
   here : IsPlacedDemand cols demand
   here = All-named (IsPlacedDemand cols) demands k demand named placed

@@ -4,7 +4,7 @@
 --   here       there      longer        outer
 --   |a| |      | |a|      |a a| |       |a     |
 --                                       ||a| | |   (the inner table in a box)
-use Rattle.std.proofs.Common.{◌≡◌, ℕ, zero, suc, List, [], ◌∷◌, codes, length, refl, sym, ap, subst, arith}
+use Rattle.std.proofs.Common.{◌≡◌, ℕ, zero, suc, List, [], ◌∷◌, codes, length, refl, sym, ap, subst, arith, false}
 use Rattle.std.specs.declared.alloc.Global.{Global}
 use Rattle.std.specs.declared.boxed.Box.{Box}
 use Rattle.tl_grid.specs.declared.shape.Place.{Place}
@@ -67,7 +67,7 @@ abbrev right : Place
 right = record { left = 1; right = 2; top = 0; bottom = 1 }
 
 abbrev cell : Place → List Content → OpenCell
-cell place blocks = record { kind = kinds.Plain; place = place; least = 0; blocks = blocks }
+cell place blocks = record { kind = kinds.Plain; in_head = false; place = place; least = 0; blocks = blocks }
 
 abbrev words : List Atom → OpenContent
 words paragraph = open_content.Para paragraph
@@ -111,6 +111,7 @@ here_itself = table_rolled (AreSameWithin 0) here here (record {
     cell_rolled (AreSameWithin 0) (cell left (roll-Content (words (a ∷ [])) ∷ []))
         (cell left (roll-Content (words (a ∷ [])) ∷ [])) (record {
           kind = refl;
+          in_head = refl;
           place = refl;
           least = refl;
           blocks = (content_rolled (AreSameWithin 0) (words (a ∷ [])) (words (a ∷ [])) refl, tt);
@@ -130,6 +131,7 @@ boxes_apart one other is are = (
     cells = (
       cell_rolled (AreSameWithin 1) (stacked (open_content.Table one)) (stacked (open_content.Table other)) (record {
         kind = refl;
+        in_head = refl;
         place = refl;
         least = refl;
         blocks = (

@@ -102,6 +102,7 @@ module _ (some more : Table → Table → Type 0) (weaker : (a b : Table) → so
   cell_weaker : (a b : OpenCell) → AreSameCell some a b → AreSameCell more a b
   cell_weaker a b is = record {
     kind = is.kind;
+    in_head = is.in_head;
     place = is.place;
     least = is.least;
     blocks = zip_weaker (λ c d. AreSameContent some (out-Content c) (out-Content d))
@@ -129,6 +130,7 @@ module _ (some more : Table → Table → Type 0) (turned : (a b : Table) → so
   pub cell_turned : (a b : OpenCell) → AreSameCell some a b → AreSameCell more b a
   cell_turned a b is = record {
     kind = sym is.kind;
+    in_head = sym is.in_head;
     place = sym is.place;
     least = sym is.least;
     blocks = zip_turned (λ c d. AreSameContent some (out-Content c) (out-Content d))

@@ -31,7 +31,7 @@ abbrev place : Place
 place = record { left = 0; right = 1; top = 0; bottom = 1 }
 
 abbrev open_cell : OpenCell
-open_cell = record { kind = kinds.Caption; place = place; least = 1; blocks = [] }
+open_cell = record { kind = kinds.Caption; in_head = false; place = place; least = 1; blocks = [] }
 
 abbrev cell : TableCell
 cell = roll-TableCell open_cell

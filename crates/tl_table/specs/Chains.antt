@@ -4,7 +4,7 @@ use Rattle.std.specs.Prelude.{◌≡◌, ℕ, zero, suc, ◌+◌, ◌-◌, ◌*�
 use Rattle.std.specs.Prelude.{Contains, slice_get}
 use Rattle.std.specs.List.{AllZip, flat_map}
 use Rattle.tl_base.specs.declared.style.Style.{Style}
-use Rattle.tl_base.specs.Style.{gap_of, edge_of}
+use Rattle.tl_base.specs.Style.{gap_of, edges_of}
 use Rattle.tl_grid.specs.declared.shape.Place.{Place}
 use Rattle.tl_base.specs.declared.chain.Chain.{Chain}
 use Rattle.tl_base.specs.declared.chain.Entry.{Entry}
@@ -67,11 +67,11 @@ abbrev pub covered : List Link → ℕ
 covered links = sum_by (λ link. link.place.right - link.place.left) links
 
 -- what entries weigh in a table of so many columns: their widths, a gap between each two of the entries and columns
--- that no entry covers, and an edge at each side
+-- that no entry covers, and both edges
 abbrev pub links_weight : Style → ℕ → List Link → ℕ
 links_weight style cols links = sum_by (λ link. link.width) links + gap_of style *
     (length links + (cols - covered links) - 1)
-    + 2 * edge_of style
+    + edges_of style
 
 -- the chains are one of the table, and after it, for its entries in order, those of the nested tables that give their
 -- widths; the first weighs `weight`

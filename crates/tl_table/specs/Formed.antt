@@ -28,7 +28,7 @@ use Rattle.tl_table.specs.declared.cell.Kind.{Kind}
 use Rattle.tl_table.specs.declared.cell.Kind.TheVariants as kinds
 use Rattle.tl_table.specs.declared.cell.Table.{Table, out-Table}
 use Rattle.tl_table.specs.declared.cell.TableCell.{TableCell, out-TableCell}
-use Rattle.tl_table.specs.Tables.{OpenTable, OpenCell, OpenContent, ComesBefore, place_of, places_of}
+use Rattle.tl_table.specs.Tables.{OpenTable, OpenCell, OpenContent, ComesBefore, is_in_head, place_of, places_of}
 
 -- ---- a tree one level at a time
 
@@ -80,6 +80,25 @@ cells_of_groups groups = flat_map (λ group. cells_of_group (out-GroupNode group
 abbrev pub cells_written : OpenNode → List CellNode
 cells_written node = cells_of_groups node.groups
 
+-- ---- which cells are of a `thead`
+
+-- a group is a `thead`
+abbrev pub is_thead : Part → Bool
+is_thead parts.Head = true
+is_thead _ = false
+
+-- for each cell of a group as they are written, row by row, whether the group is a `thead`
+abbrev pub marks_of_group : OpenGroup → List Bool
+marks_of_group group = flat_map (λ row. map (λ cell. is_thead group.part) row) group.rows
+
+-- for each cell of groups as they are written, one group after another, whether its group is a `thead`
+abbrev pub marks_of_groups : List GroupNode → List Bool
+marks_of_groups groups = flat_map (λ group. marks_of_group (out-GroupNode group)) groups
+
+-- for each cell of a table as they are written, whether its group is a `thead`
+abbrev pub marks_written : OpenNode → List Bool
+marks_written node = marks_of_groups node.groups
+
 -- ---- the blocks of a cell
 
 -- the units of a paragraph: its words as they are, or those that are wider than so many columns in
@@ -107,7 +126,7 @@ abbrev pub header_kind : Bool → Kind
 header_kind true = kinds.Head
 header_kind false = kinds.Plain
 
--- a cell of the tree becomes this cell, wherever that lies
+-- a cell of the tree becomes this cell, wherever that lies and whatever its group is
 pub record BecomesCell (forms : TableNode → Table → Type 0) (breaking : Breaking) (node : OpenCellNode)
     (cell : OpenCell) : Type 0 where
   pub kind : cell.kind ≡ header_kind node.head
@@ -135,6 +154,7 @@ caption_rows (Some flow) = 1
 pub record BecomesCaption (forms : TableNode → Table → Type 0) (breaking : Breaking) (cols : ℕ) (flow : List Block)
     (cell : OpenCell) : Type 0 where
   pub kind : cell.kind ≡ kinds.Caption
+  pub in_head : cell.in_head ≡ false
   pub place : cell.place ≡ record { left = 0; right = cols; top = 0; bottom = 1 }
   pub least : cell.least ≡ 0
   pub blocks : BecomeContents forms breaking flow cell.blocks
@@ -161,6 +181,7 @@ pub record BecomesBy (forms : TableNode → Table → Type 0) (breaking : Breaki
   pub captioned : BecomeCaption forms breaking table.cols node.caption caption
   pub written : List TableCell
   pub cells : BecomeCells forms breaking (cells_written node) written
+  pub marked : map is_in_head written ≡ marks_written node
   pub places : map place_of written ≡ map (lowered (caption_rows node.caption)) grid.places
   pub same : IsPermutation (caption ++ written) table.cells
   pub in_order : AllPairs ComesBefore (places_of table)
@@ -175,12 +196,13 @@ BecomesWithin (suc depth) breaking node table =
 abbrev pub Becomes : Breaking → TableNode → Table → Type 0
 Becomes breaking node table = (depth : ℕ) × BecomesWithin depth breaking node table
 
--- after these cells come those that the cells of the tree become, each at the place of its number
-pub record Writes (breaking : Breaking) (nodes : List CellNode) (places : List Place)
+-- after these cells come those that the cells of the tree become, each with its mark and at the place of its number
+pub record Writes (breaking : Breaking) (nodes : List CellNode) (marks : List Bool) (places : List Place)
     (before after : List TableCell) : Type 0 where
   pub more : List TableCell
   pub joined : after ≡ before ++ more
   pub cells : BecomeCells (Becomes breaking) breaking nodes more
+  pub marked : map is_in_head more ≡ marks
   pub placed : map place_of after ≡ take (length after) places
 
 -- the number of a cell's first slot, where the slots are counted row by row, `MAX_COLUMNS` in each

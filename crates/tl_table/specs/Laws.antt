@@ -11,13 +11,14 @@ use Rattle.tl_table.specs.declared.cell.Table.{Table, out-Table}
 use Rattle.tl_table.specs.declared.layout.Layout.{Layout}
 use Rattle.tl_table.specs.Chains.{IsChain}
 use Rattle.tl_table.specs.Formed.{Becomes}
+use Rattle.tl_table.specs.Heads.{caption_height, head_end}
 use Rattle.tl_table.specs.Layouts.{Fits}
 use Rattle.tl_table.specs.Refused.{HasSomeGrid, IsFirstWithoutGrid, numbered_shapes}
 use Rattle.tl_table.specs.Same.{AreSame}
 use Rattle.tl_table.specs.Sound.{IsSound, nested_in_table}
 use Rattle.tl_table.specs.Spellable.{IsSpellable}
 use Rattle.tl_table.specs.Spells.{Spells}
-use Rattle.tl_table.specs.Tables.{IsAmong}
+use Rattle.tl_table.specs.Tables.{IsAmong, places_of}
 
 -- a file spells at most one table for each breaking
 abbrev pub FileSpellsOneTable : Type 0
@@ -47,3 +48,9 @@ EachNumberIsOfOneTable = (table : Table) → IsSound table →
 abbrev pub FormedTablesAreSound : Type 0
 FormedTablesAreSound = (breaking : Breaking) (node : TableNode) (table : Table) → IsSoundTree node →
     Becomes breaking node table → IsSound table × IsSpellable breaking table
+
+-- the head ends within the table and not above its caption's row, and no cell begins in a row above that end and reaches below
+abbrev pub NoCellCrossesTheHead : Type 0
+NoCellCrossesTheHead = (table : Table) → IsSound table → (head_end table ≤ (out-Table table).rows)
+    × (caption_height table ≤ head_end table)
+    × AllByRecursion (λ place. place.top < head_end table → place.bottom ≤ head_end table) (places_of (out-Table table))

@@ -3,7 +3,7 @@
 use Rattle.std.specs.Prelude.{◌≡◌, ℕ, zero, suc, ◌≤◌, List, [], ◌∷◌, length, sum_by}
 use Rattle.std.specs.List.{AllZip, flat_map}
 use Rattle.tl_base.specs.declared.style.Style.{Style}
-use Rattle.tl_base.specs.Style.{gap_of, row_gap_of, edge_of}
+use Rattle.tl_base.specs.Style.{gap_of, row_gap_of, edges_of}
 use Rattle.tl_grid.specs.declared.shape.Place.{Place}
 use Rattle.tl_base.specs.Sizes.{room, total}
 use Rattle.tl_text.specs.declared.paragraph.Atom.{Atom}
@@ -21,11 +21,11 @@ OpenLayout = Layout-F Layout
 
 -- the total width of a layout, in columns of the page
 abbrev pub total_width : Style → OpenLayout → ℕ
-total_width style layout = total (gap_of style) (edge_of style) layout.widths
+total_width style layout = total (gap_of style) (edges_of style) layout.widths
 
 -- the total height of a layout, in lines
 abbrev pub total_height : Style → OpenLayout → ℕ
-total_height style layout = total (row_gap_of style) (edge_of style) layout.heights
+total_height style layout = total (row_gap_of style) (edges_of style) layout.heights
 
 -- the room that a layout gives a place, in columns of the page
 abbrev pub width_for : Style → OpenLayout → Place → ℕ

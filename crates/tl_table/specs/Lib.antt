@@ -3,6 +3,7 @@ pub mod Layouts
 pub mod Least
 pub mod Chains
 pub mod Formed
+pub mod Heads
 pub mod Spellable
 pub mod Sound
 pub mod Refused

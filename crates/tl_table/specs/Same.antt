@@ -19,6 +19,7 @@ AreSameContent same (open_content.Table one) (open_content.Table other) = same o
 -- two cells are the same, where `same` says so of nested tables
 pub record AreSameCell (same : Table → Table → Type 0) (one other : OpenCell) : Type 0 where
   pub kind : one.kind ≡ other.kind
+  pub in_head : one.in_head ≡ other.in_head
   pub place : one.place ≡ other.place
   pub least : one.least ≡ other.least
   pub blocks : AllZip (λ block content. AreSameContent same (out-Content block) (out-Content content)) one.blocks other.blocks

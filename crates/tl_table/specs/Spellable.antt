@@ -1,7 +1,7 @@
 -- What a file can spell, beside the grid that a sound table has: the caption and the rows that the HTML Standard gives
 -- ("Forming a table", 4.9.12), and paragraphs of whole words that text can stand for. Each sound table is so. A table that was
 -- put together by hand may not be: with an empty slot to the left of a cell, with a caption that has a floor, with a control
--- character in a word, or with units that the breaking does not give.
+-- character in a word, or with units that the breaking does not give. Which of its rows are of a `thead` is not asked here.
 use Rattle.std.specs.Prelude.{◌≡◌, ℕ, zero, suc, ◌+◌, ◌≤◌, Bool, List, [], ◌∷◌, ◌++◌, length}
 use Rattle.std.specs.List.{All, AllByRecursion}
 use Rattle.tl_base.specs.declared.breaking.Breaking.{Breaking}

@@ -1,5 +1,5 @@
 -- Tables one level at a time: a table, a cell and a block by their fields, the tables nested in them, and where cells lie.
-use Rattle.std.specs.Prelude.{◌≡◌, ◌⊎◌, ℕ, zero, suc, ◌<◌, List, [], ◌∷◌, map, Contains}
+use Rattle.std.specs.Prelude.{◌≡◌, ◌⊎◌, ℕ, zero, suc, ◌<◌, Bool, List, [], ◌∷◌, map, Contains}
 use Rattle.std.specs.List.{flat_map}
 use Rattle.tl_grid.specs.declared.shape.Place.{Place}
 use Rattle.tl_table.specs.declared.cell.Content.{Content, Content-F, out-Content}
@@ -37,6 +37,10 @@ inner_tables table = flat_map (λ cell. tables_in (out-TableCell cell)) table.ce
 -- where the cell lies
 abbrev pub place_of : TableCell → Place
 place_of cell = (out-TableCell cell).place
+
+-- the cell's row is of a `thead`
+abbrev pub is_in_head : TableCell → Bool
+is_in_head cell = (out-TableCell cell).in_head
 
 -- where the cells of a table lie, in their order
 abbrev pub places_of : OpenTable → List Place

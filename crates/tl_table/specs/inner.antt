@@ -2,5 +2,6 @@
 pub mod Demands
 pub mod LeastRooms
 pub mod Links
+pub mod Marks
 pub mod Forming
 pub mod Numbers

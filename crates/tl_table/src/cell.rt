@@ -31,6 +31,8 @@ pub enum Content {
 pub struct TableCell {
     /// What it is in its table.
     pub kind: Kind,
+    /// Whether its row is of a `thead` group.
+    pub in_head: bool,
     /// The columns and rows that it covers.
     pub place: Place,
     /// Its floor: how many columns of the page its room has at least, up to

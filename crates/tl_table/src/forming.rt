@@ -19,10 +19,12 @@ ghost use Rattle.tl_table.specs.declared.cell.TableCell.{out-TableCell};
 ghost use Rattle.tl_table.specs.declared.error.FormError.{FormError};
 ghost use Rattle.tl_table.specs.declared.error.FormError.TheVariants.{Memory};
 ghost use Rattle.tl_table.specs.Formed.{Becomes, BecomesContent, BecomeContents, BecomesCell, BecomeCaption, Writes, slot_number};
+ghost use Rattle.tl_table.specs.Formed.{is_thead, marks_of_group, marks_of_groups};
 ghost use Rattle.tl_table.specs.Formed.{caption_rows, cells_of_group, cells_of_groups, header_kind, lowered, shape_of};
 ghost use Rattle.tl_table.specs.Refused.{AreRefused, HasNoGrid, tables_in_block, part_of_cell, part_of_group};
 ghost use Rattle.tl_table.specs.Same.{ReturnsTable};
 ghost use Rattle.tl_table.specs.Sound.{IsSound as IsSoundTable, place_of};
+ghost use Rattle.tl_table.specs.Tables.{is_in_head};
 ghost use Rattle.tl_table.specs.Spellable.{IsSpellable};
 ghost use Rattle.tl_table.specs.inner.Forming.{IsOwnError, refusal};
 ghost use Rattle.tl_table.specs.Refused.{tables_in_cells, tables_in_flow, tables_in_groups};
@@ -34,7 +36,7 @@ use crate::shape::shape_of;
 use std::alloc::{AllocError, Global};
 use tl_base::{Breaking, List, MAX_COLUMNS};
 use tl_grid::{Grid, GridError, Place, form};
-use tl_tree::{Block, CellNode, GroupNode, TableNode};
+use tl_tree::{Block, CellNode, GroupNode, Part, TableNode};
 
 /// The grid of the table itself.
 fn grid_of(alloc: Global, node: &TableNode) -> Result<Grid, FormError>
@@ -115,6 +117,16 @@ fn kind_of(head: bool) -> Kind
     if head { Kind::Head } else { Kind::Plain }
 }
 
+/// Whether a group of rows is a `thead`.
+fn is_thead(part: Part) -> bool
+    ensures { result ≡ is_thead part }
+{
+    match part {
+        Part::Head => true,
+        Part::Loose | Part::Body | Part::Foot => false,
+    }
+}
+
 /// The block of a tree as a block of a table.
 #[cycle(forming)]
 fn content(alloc: Global, block: Block, breaking: Breaking) -> Result<Content, FormError>
@@ -160,12 +172,14 @@ fn contents(
 fn cell(
     alloc: Global,
     node: CellNode,
+    in_head: bool,
     place: Place,
     breaking: Breaking,
 ) -> Result<TableCell, FormError>
     requires { AreSound (cell_outline node) }
     ensures ok { IfOk result (λ cell.
         BecomesCell (Becomes breaking) breaking (out-CellNode node) (out-TableCell cell)) }
+    ensures marked { IfOk result (λ cell. is_in_head cell ≡ in_head) }
     ensures place { IfOk result (λ cell. place_of cell ≡ place) }
     ensures err { IfErr result (IsMemoryOr (Memory alloc_error) (AreRefused (part_of_cell node).inner)) }
 {
@@ -179,6 +193,7 @@ fn cell(
     let blocks = contents(alloc, flow, breaking)?;
     Ok(TableCell {
         kind: kind_of(head),
+        in_head,
         place,
         least,
         blocks,
@@ -207,6 +222,7 @@ fn caption_cells(
     };
     cells.push(TableCell {
         kind: Kind::Caption,
+        in_head: false,
         place,
         least: 0,
         blocks,
@@ -219,6 +235,7 @@ fn caption_cells(
 fn row_cells(
     alloc: Global,
     row: List<CellNode>,
+    in_head: bool,
     places: &[Place],
     breaking: Breaking,
     mut written: Vec<TableCell>,
@@ -226,11 +243,12 @@ fn row_cells(
     requires sound { AreSound (cells_outline row) }
     requires placed { map place_of written.items ≡ take (length written.items) places.now }
     requires room { length written.items + length row ≤ length places.now }
-    ensures ok { IfOk result (λ after. Writes breaking row places.now written.items after.items) }
+    ensures ok { IfOk result (λ after.
+        Writes breaking row (map (λ node. in_head) row) places.now written.items after.items) }
     ensures err { IfErr result (IsMemoryOr (Memory alloc_error) (AreRefused (tables_in_cells row))) }
 {
     for node in row.into_vec() {
-        let made = cell(alloc, node, places[written.len()], breaking)?;
+        let made = cell(alloc, node, in_head, places[written.len()], breaking)?;
         written.push(made)?;
     }
     Ok(written)
@@ -249,12 +267,14 @@ fn group_cells(
     requires placed { map place_of written.items ≡ take (length written.items) places.now }
     requires room { length written.items + length (cells_of_group (out-GroupNode group)) ≤ length places.now }
     ensures ok { IfOk result (λ after.
-        Writes breaking (cells_of_group (out-GroupNode group)) places.now written.items after.items) }
+        Writes breaking (cells_of_group (out-GroupNode group)) (marks_of_group (out-GroupNode group)) places.now
+        written.items after.items) }
     ensures err { IfErr result (IsMemoryOr (Memory alloc_error) (AreRefused (part_of_group group).inner)) }
 {
-    let GroupNode { part: _, rows } = group;
+    let GroupNode { part, rows } = group;
+    let in_head = is_thead(part);
     for row in rows.into_vec() {
-        written = row_cells(alloc, row, places, breaking, written)?;
+        written = row_cells(alloc, row, in_head, places, breaking, written)?;
     }
     Ok(written)
 }
@@ -269,7 +289,8 @@ fn written_cells(
 ) -> Result<Vec<TableCell>, FormError>
     requires sound { AreSound (flat_map group_outline groups) }
     requires room { length (cells_of_groups groups) ≡ length places.now }
-    ensures ok { IfOk result (λ cells. Writes breaking (cells_of_groups groups) places.now [] cells.items) }
+    ensures ok { IfOk result (λ cells.
+        Writes breaking (cells_of_groups groups) (marks_of_groups groups) places.now [] cells.items) }
     ensures err { IfErr result (IsMemoryOr (Memory alloc_error) (AreRefused (tables_in_groups groups))) }
 {
     let mut written = Vec::with_capacity(alloc, places.len())?;

@@ -1,7 +1,7 @@
 //! Laws of the definitions in this crate's specs. Each is the contract of a function that does nothing.
 
 ghost use Rattle.tl_table.specs.FewCells.{FormedHasFewCells};
-ghost use Rattle.tl_table.specs.Laws.{EachNumberIsOfOneTable, FileSpellsOneTable, FormedTablesAreSound, NoPageIsNarrowerThanAChain, TheFirstHasTheLeastNumber};
+ghost use Rattle.tl_table.specs.Laws.{EachNumberIsOfOneTable, FileSpellsOneTable, FormedTablesAreSound, NoCellCrossesTheHead, NoPageIsNarrowerThanAChain, TheFirstHasTheLeastNumber};
 
 use tl_tree::tokens_spell_one_tree;
 
@@ -36,4 +36,9 @@ pub fn each_number_is_of_one_table()
 /// Each table that a sound tree becomes is sound, and a file can spell it by the same breaking.
 pub fn formed_tables_are_sound()
     ensures { FormedTablesAreSound }
+{}
+
+/// No cell of a sound table crosses the row at which its head ends: each is above it or below it.
+pub fn no_cell_crosses_the_head()
+    ensures { NoCellCrossesTheHead }
 {}

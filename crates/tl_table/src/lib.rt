@@ -9,6 +9,7 @@ mod cell;
 mod count;
 mod error;
 mod forming;
+mod head;
 mod laws;
 mod layout;
 mod narrow;
@@ -23,9 +24,10 @@ pub use cell::{Content, Kind, Table, TableCell};
 pub use count::nested;
 pub use error::FormError;
 pub use forming::table;
+pub use head::{caption_height, head_end};
 pub use laws::{
     each_number_is_of_one_table, file_spells_one_table, formed_has_few_cells,
-    formed_tables_are_sound, no_page_is_narrower_than_a_chain,
+    formed_tables_are_sound, no_cell_crosses_the_head, no_page_is_narrower_than_a_chain,
     the_first_without_a_grid_has_the_least_number,
 };
 pub use layout::Layout;

@@ -189,7 +189,7 @@ fn chain_by_arcs(
     if numbers.is_empty() {
         numbers.push(in_last_column(demands, cols))?;
     }
-    let weight = heaviest + style.gap() * (cols - 1) + 2 * style.edge();
+    let weight = heaviest + style.gap() * (cols - 1) + style.edges();
     Ok(HeaviestChain { numbers, weight })
 }
 

@@ -4,7 +4,7 @@ use Rattle.std.specs.Prelude.{slice_get, get_or}
 use Rattle.std.specs.List.{All, AllZip, Any}
 use Rattle.tl_base.specs.declared.style.Style.{Style}
 use Rattle.tl_base.specs.declared.limits.TheConstants.{MAX_COLUMNS, MAX_PAGE_WIDTH}
-use Rattle.tl_base.specs.Style.{gap_of, edge_of}
+use Rattle.tl_base.specs.Style.{gap_of, edges_of}
 use Rattle.tl_diff.specs.declared.paths.Arc.{Arc}
 use Rattle.tl_diff.specs.declared.paths.TheConstants.{MAX_PATH_WEIGHT}
 use Rattle.tl_base.specs.Sizes.{room, IsLeastTotal}
@@ -43,7 +43,7 @@ pub record GiveRooms (gap cols : ℕ) (demands : List Demand) (widths : List ℕ
 
 -- the least total width of columns that give each demand its room
 abbrev pub IsLeastFor : Style → ℕ → List Demand → ℕ → Type 0
-IsLeastFor style cols demands weight = IsLeastTotal (gap_of style) (edge_of style)
+IsLeastFor style cols demands weight = IsLeastTotal (gap_of style) (edges_of style)
     (GiveRooms (gap_of style) cols demands) weight
 
 -- what the demand asks of its columns beside the gaps between them
@@ -74,7 +74,7 @@ columns_demanded demands = sum_by (λ demand. demand.right - demand.left) demand
 -- what demands in a row weigh in a table of so many columns
 abbrev pub demands_weight : Style → ℕ → List Demand → ℕ
 demands_weight style cols demands = sum_by (λ demand. demand.width) demands
-    + gap_of style * (length demands + (cols - columns_demanded demands) - 1) + 2 * edge_of style
+    + gap_of style * (length demands + (cols - columns_demanded demands) - 1) + edges_of style
 
 -- the numbers are those of demands in a row, at least one, and these weigh `weight`
 pub record IsRowOf (style : Style) (cols : ℕ) (demands : List Demand) (numbers : List ℕ) (weight : ℕ) : Type 0 where

@@ -1,4 +1,4 @@
-use Rattle.std.proofs.Common.{◌∙◌, ◌++◌, [], ◌∷◌, List, length, refl, sym, ap, subst, rules, arith}
+use Rattle.std.proofs.Common.{◌∙◌, ◌++◌, [], ◌∷◌, Bool, List, length, map, refl, sym, ap, subst, rules, arith}
 use Rattle.std.proofs.Common.{Global, Some, Vec, alloc_error}
 use Rattle.std.specs.List.{flat_map}
 use Rattle.std.specs.List.Sorted.{IsPermutation, IsNonDecreasingBy}
@@ -18,6 +18,7 @@ use Rattle.tl_table.specs.declared.cell.Table.{out-roll-Table}
 use Rattle.tl_table.specs.declared.cell.TableCell.{TableCell}
 use Rattle.tl_table.specs.declared.error.FormError.TheVariants.{Memory}
 use Rattle.tl_table.specs.Formed.{BecomeCaption, Becomes, BecomesContent, BecomeContents, Writes, cells_of_group}
+use Rattle.tl_table.specs.Formed.{is_thead, marks_of_group, marks_of_groups, marks_written}
 use Rattle.tl_table.specs.Formed.{cells_of_groups, cells_written, lowered, shape_of, slot_number}
 use Rattle.tl_table.specs.Refused.{CellPart, GroupPart, AreRefused, HasNoGrid, tables_in_block, part_of_cell}
 use Rattle.tl_table.specs.Refused.{part_of_group, tables_in_caption, tables_in_cells, tables_in_flow, tables_in_groups}
@@ -125,9 +126,10 @@ row_cells-loop-node-preserved t c =
     c.into_vec-node-items.ensures c.into_iter-node-iterator.ensures.into_iter_gives.0
     c.into_iter-node-iterator.ensures.into_iter_gives.1 c.loop-node.yielded_by c.in-Some.is
     c.next.ensures.steps in
-    Writes-cell c.args.breaking c.loop-node.yielded c.in-Some.node c.args.places.now c.args.written.items
+    Writes-cell c.args.breaking c.loop-node.yielded c.in-Some.node (λ (node : CellNode). c.args.in_head) c.args.places.now
+    c.args.written.items
     c.loop-node.written.items c.push.new.self.items c.in_ok-made.made c.len.result _ c.loop-node.invariant
-    c.in_ok-made.ensures.ok (search rules) c.in_ok-made.ensures.place (omega (
+    c.in_ok-made.ensures.ok c.in_ok-made.ensures.marked (search rules) c.in_ok-made.ensures.place (omega (
       arith,
       Writes-length c.args.breaking c.loop-node.yielded c.args.places.now c.args.written.items c.loop-node.written.items
           c.loop-node.invariant,
@@ -135,6 +137,10 @@ row_cells-loop-node-preserved t c =
       at.within,
       c.len.ensures,
     )) c.in_ok-push.ensures.items
+
+-- for each cell of a row of the group, whether the group is a `thead`
+abbrev marks_of_row : GroupNode → List CellNode → List Bool
+marks_of_row group row = map (λ (cell : CellNode). is_thead (out-GroupNode group).part) row
 
 pub group_cells-row_cells-requires : goal.group_cells-row_cells-requires
 group_cells-row_cells-requires t c =
@@ -153,7 +159,8 @@ group_cells-row_cells-requires t c =
           Writes-room c.args.breaking (λ (row : List CellNode). row) rows (length c.loop-row.yielded) c.in-Some.row
               c.args.places.now c.args.written.items c.loop-row.written.items at.within at.is
               (subst (λ (some : List (List CellNode)). Writes c.args.breaking (flat_map (λ (row : List CellNode). row) some)
-              c.args.places.now c.args.written.items c.loop-row.written.items) at.so_far c.loop-row.invariant) c.requires.room,
+              (flat_map (marks_of_row c.args.group) c.loop-row.yielded) c.args.places.now c.args.written.items
+              c.loop-row.written.items) at.so_far c.loop-row.invariant) c.requires.room,
         ),
       ),
     )
@@ -181,14 +188,16 @@ group_cells-returns-in_err-written-clause-err t c =
 
 pub group_cells-loop-row-preserved : goal.group_cells-loop-row-preserved
 group_cells-loop-row-preserved t c =
-    Writes-last c.args.breaking (λ (row : List CellNode). row) c.loop-row.yielded c.in-Some.row c.args.places.now
-    c.args.written.items c.loop-row.written.items c.in_ok-written.written.items c.loop-row.invariant c.in_ok-written.ensures.ok
+    Writes-last c.args.breaking (λ (row : List CellNode). row) (marks_of_row c.args.group) c.loop-row.yielded c.in-Some.row
+    c.args.places.now c.args.written.items c.loop-row.written.items c.in_ok-written.written.items c.loop-row.invariant
+    (subst (λ (mark : Bool). Writes c.args.breaking c.in-Some.row (map (λ (cell : CellNode). mark) c.in-Some.row)
+    c.args.places.now c.loop-row.written.items c.in_ok-written.written.items) c.is_thead-in_head.ensures c.in_ok-written.ensures.ok)
 
 pub group_cells-returns-clause-ok : goal.group_cells-returns-clause-ok
 group_cells-returns-clause-ok t c =
     let rows = (out-GroupNode c.args.group).rows in
     subst (λ (some : List (List CellNode)). Writes c.args.breaking (flat_map (λ (row : List CellNode). row) some)
-    c.args.places.now c.args.written.items c.loop-row.written.items)
+    (flat_map (marks_of_row c.args.group) some) c.args.places.now c.args.written.items c.loop-row.written.items)
     (yielded_all c.into_iter-row-iterator.result c.loop-row.row-iterator c.next.new.self
     c.into_vec-row-items.result rows c.loop-row.yielded c.into_vec-row-items.ensures
     c.into_iter-row-iterator.ensures.into_iter_gives.0
@@ -210,8 +219,8 @@ written_cells-group_cells-requires t c =
           c.loop-group.invariant.placed,
           Writes-room c.args.breaking (λ (group : GroupNode). cells_of_group (out-GroupNode group)) c.args.groups
               (length c.loop-group.yielded) c.in-Some.group c.args.places.now [] c.loop-group.written.items at.within at.is
-              (subst (λ (some : List GroupNode). Writes c.args.breaking (cells_of_groups some) c.args.places.now []
-              c.loop-group.written.items) at.so_far c.loop-group.invariant) (omega (arith, c.requires.room)),
+              (subst (λ (some : List GroupNode). Writes c.args.breaking (cells_of_groups some)
+              (marks_of_groups c.loop-group.yielded) c.args.places.now [] c.loop-group.written.items) at.so_far c.loop-group.invariant) (omega (arith, c.requires.room)),
         ),
       ),
     )
@@ -235,8 +244,8 @@ written_cells-returns-in_err-written-2-clause-err t c =
 
 pub written_cells-loop-group-preserved : goal.written_cells-loop-group-preserved
 written_cells-loop-group-preserved t c =
-    Writes-last c.args.breaking (λ (group : GroupNode). cells_of_group (out-GroupNode group)) c.loop-group.yielded
-    c.in-Some.group c.args.places.now [] c.loop-group.written.items c.in_ok-written-2.written.items c.loop-group.invariant
+    Writes-last c.args.breaking (λ (group : GroupNode). cells_of_group (out-GroupNode group))
+    (λ (group : GroupNode). marks_of_group (out-GroupNode group)) c.loop-group.yielded c.in-Some.group c.args.places.now [] c.loop-group.written.items c.in_ok-written-2.written.items c.loop-group.invariant
     c.in_ok-written-2.ensures.ok
 
 pub formed-returns-in_err-grid-clause-err : goal.formed-returns-in_err-grid-clause-err
@@ -321,7 +330,7 @@ formed-returns-clause-ok t c =
     c.from_vec.result c.caption_rows-down.result c.max-cols.result c.requires
     c.in_ok-grid.ensures.ok c.caption_rows-down.ensures c.max-cols.ensures captioned c.in_ok-places.ensures
     (subst (λ (places : List Place). Writes c.args.breaking (cells_written (out-TableNode c.args.node))
-    places [] c.in_ok-written.written.items)
+    (marks_written (out-TableNode c.args.node)) places [] c.in_ok-written.written.items)
     c.as_slice.ensures c.in_ok-written.ensures.ok)
     refl
     (subst (IsPermutation (c.match-caption.caption.items ++ c.in_ok-written.written.items)) (sym c.from_vec.ensures)

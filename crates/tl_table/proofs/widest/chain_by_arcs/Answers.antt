@@ -28,11 +28,11 @@ numbers_along-requires c =
 pub returns-clause-least : goal.returns-clause-least
 returns-clause-least c = least_found c.args.style c.args.cols c.args.demands.now c.args.arcs.now c.heaviest_path.new.out
     c.in_ok-path.heaviest
-    c.gap.result c.edge.result
+    c.gap.result c.edges.result
     (IsFound-made c.args.style c.args.cols c.args.demands.now c.args.arcs.now c.args.plain.now c.heaviest_path.new.out
     c.in_ok-path.heaviest
     c.requires.some c.requires.demands c.requires.arcs c.requires.plain c.in_ok-path.ensures.each c.in_ok-path.ensures.last)
-    c.gap.ensures c.edge.ensures
+    c.gap.ensures c.edges.ensures
 
 pub returns-clause-chain : goal.returns-clause-chain
 returns-clause-chain c =
@@ -44,19 +44,19 @@ returns-clause-chain c =
     elim c.if-is_empty.branch [
       | then-is_empty+in_ok-push w ↦ last_found c.args.style c.args.cols c.args.demands.now c.args.arcs.now c.args.plain.now
           c.heaviest_path.new.out
-          c.in_ok-path.path c.in_ok-numbers.numbers c.if-is_empty.numbers c.in_ok-path.heaviest c.gap.result c.edge.result
+          c.in_ok-path.path c.in_ok-numbers.numbers c.if-is_empty.numbers c.in_ok-path.heaviest c.gap.result c.edges.result
           w.in_last_column.result
           found c.requires.plain c.in_ok-path.ensures.weight named
           (empty_of_nil c.in_ok-numbers.numbers (w.if-is_empty.ensures.0 (search rules))) (w.numbers-is ∙ w.in_ok-push.ensures.ok)
-          w.in_last_column.ensures c.gap.ensures c.edge.ensures
+          w.in_last_column.ensures c.gap.ensures c.edges.ensures
       | else-is_empty w ↦ row_found c.args.style c.args.cols c.args.demands.now c.args.arcs.now c.args.plain.now
           c.heaviest_path.new.out
-          c.in_ok-path.path c.if-is_empty.numbers c.in_ok-path.heaviest c.gap.result c.edge.result found c.requires.plain
+          c.in_ok-path.path c.if-is_empty.numbers c.in_ok-path.heaviest c.gap.result c.edges.result found c.requires.plain
           c.in_ok-path.ensures.path c.in_ok-path.ensures.weight (w.numbers-is ∙ named)
           (subst (λ those. 0 < length those) (sym w.numbers-is)
           (some_of_not_nil c.in_ok-numbers.numbers (λ nil. let no : false ≡ true = w.if-is_empty.ensures.1 nil in cc)))
           c.gap.ensures
-          c.edge.ensures
+          c.edges.ensures
     ]
 
 pub heaviest_path-requires-clause-light : goal.heaviest_path-requires-clause-light
@@ -66,7 +66,7 @@ heaviest_path-requires-clause-light c = omega
 pub returns-clause-small : goal.returns-clause-small
 returns-clause-small c = small_found c.args.style c.args.cols c.in_ok-path.heaviest
     (sum_by (λ demand. demand.width) c.args.demands.now) c.gap.result
-    c.edge.result c.requires.demands.few_columns
+    c.edges.result c.requires.demands.few_columns
     (omega (
       arith,
       c.in_ok-path.ensures.small,
@@ -74,4 +74,4 @@ returns-clause-small c = small_found c.args.style c.args.cols c.in_ok-path.heavi
       total_weight-plain c.args.arcs.now,
       c.requires.light,
     )) c.gap.ensures
-    c.edge.ensures
+    c.edges.ensures
