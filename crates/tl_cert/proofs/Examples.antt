@@ -17,6 +17,7 @@ use Rattle.std.proofs.Common.{◌∷◌, ◌⊎◌, inl, inr, length, get_or, ta
 use Rattle.std.specs.List.{All, Contains}
 use Rattle.std.proofs.lemmas.Bool.{cases_lt}
 use Rattle.std.proofs.lemmas.List.Elements.{All-nil, All-from_recursion}
+use Rattle.tl_base.specs.Style.{spacing_of}
 use Rattle.tl_base.specs.declared.style.Style.TheVariants.{Plain}
 use Rattle.tl_base.specs.declared.steps.Config.{Config}
 use Rattle.tl_base.specs.Steps.{first_width, IsLowAt}
@@ -59,7 +60,7 @@ cells = cell 0 0 (two_words 1) ∷ cell 1 0 (two_words 1) ∷ cell 2 0 (step 1 2
     (two_words 4) ∷ cell 3 1 (two_words 4) ∷ []
 
 abbrev problem : ProblemModel
-problem = record { cols = 4; rows = 2; style = Plain; width = 25; cells = cells }
+problem = record { cols = 4; rows = 2; spacing = spacing_of Plain; width = 25; cells = cells }
 
 sixteen : count_of problem ≡ 16
 unfolding spans_of classes_of

@@ -2,13 +2,15 @@
 use Rattle.std.proofs.Common.{◌≡◌, ℕ, List, [], ◌∷◌, refl}
 use Rattle.std.specs.Prelude.{Some, None, codes}
 use Rattle.std.specs.List.{concat}
-use Rattle.tl_base.specs.declared.style.Style.TheVariants.{Plain, Compact, Frame}
+use Rattle.tl_base.specs.declared.style.Style.{Style}
+use Rattle.tl_base.specs.declared.style.Style.TheVariants.{Plain, Compact, Frame, Grid, Box}
 use Rattle.tl_cert.specs.declared.log.Side.TheVariants.{Most, Least}
 use Rattle.tl_cert.specs.declared.log.Nogood.TheVariants as nogoods
 use Rattle.tl_cert.specs.declared.log.End.{End}
 use Rattle.tl_cert.specs.declared.log.End.TheVariants as ends
 use Rattle.tl_cert.specs.declared.log.LogLine.{LogLine}
 use Rattle.tl_cert.specs.declared.section.Section.{Section}
+use Rattle.tl_cert.specs.declared.certificate.Certificate.{Certificate}
 use Rattle.tl_cert.specs.declared.certificate.Claim.TheVariants.{Lowest, Bounded, Narrow}
 use Rattle.tl_cert.specs.Pieces.{numeral}
 use Rattle.tl_cert.specs.Text.{cert_text}
@@ -242,3 +244,32 @@ bounds_of_one_span : cert_text (record {
     codes "end\n" ∷ [])
 unfolding numeral
 bounds_of_one_span = refl
+
+-- a page that is too narrow for two columns with an edge at each side, in each style that draws the head apart
+abbrev edged : Style → Certificate
+edged style = record {
+  width = 10;
+  style = style;
+  budget = 0;
+  claim = Narrow 11;
+  sections = [];
+  chains = record { table = 0; entries = record { cell = 0; inner = None } ∷ record { cell = 1; inner = None } ∷ [] } ∷ [];
+}
+
+narrow_in_grid : cert_text (edged Grid)
+    ≡ concat (
+    codes "tablelayout 1 10 grid 0\n" ∷
+    codes "narrow 11\n" ∷
+    codes "chain 0 0 1\n" ∷
+    codes "end\n" ∷ [])
+unfolding numeral
+narrow_in_grid = refl
+
+narrow_in_box : cert_text (edged Box)
+    ≡ concat (
+    codes "tablelayout 1 10 box 0\n" ∷
+    codes "narrow 11\n" ∷
+    codes "chain 0 0 1\n" ∷
+    codes "end\n" ∷ [])
+unfolding numeral
+narrow_in_box = refl

@@ -274,6 +274,8 @@ style_most : (style : Style) → length (style_field style) ≤ 8
 style_most styles.Plain = omega arith
 style_most styles.Compact = omega arith
 style_most styles.Frame = omega arith
+style_most styles.Grid = omega arith
+style_most styles.Box = omega arith
 
 claim_most : (claim : Claim) → most_in (claim_pieces claim) ≤ 30
 unfolding numeral

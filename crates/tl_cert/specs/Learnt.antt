@@ -1,6 +1,6 @@
 -- What a search has learnt from its log: no zone is cut that a line known by then closes, and each line is shrunk to the
 -- bounds that matter. It speaks of a problem in which `low` is `high` for every cell, of a trace and of a log.
-use Rattle.std.specs.Prelude.{◌≡◌, ◌≢◌, ◌↔◌, ℕ, ◌<◌, ◌≤◌, List, [], length, get_or, map}
+use Rattle.std.specs.Prelude.{◌≢◌, ◌↔◌, ℕ, ◌<◌, ◌≤◌, List, [], length, get_or, map}
 use Rattle.std.specs.List.{All, Contains}
 use Rattle.tl_problem.specs.Problem.{ProblemModel}
 use Rattle.tl_problem.specs.Zones.{InZone}

@@ -40,6 +40,30 @@ impl<'a> Reader<'a> {
             self.word(b"frame ")?;
             return Ok(Style::Frame);
         }
+        self.style_but_frame()
+    }
+
+    #[tactic(auto, unfolding(crate::specs::inner::CertReading::no_frame_at, // and how readings follow one another
+    crate::specs::inner::reading::Readings::followed, crate::specs::inner::reading::Readings::either, crate::specs::inner::reading::Readings::give))]
+    fn style_but_frame(&mut self) -> Result<Style, Fault>
+        ensures { Gives (λ x. x) result self.new.rest.now (read.no_frame_at self.old.rest.now) }
+    {
+        if self.next_is(b'g') {
+            self.word(b"grid ")?;
+            return Ok(Style::Grid);
+        }
+        self.box_or_style_without_lines()
+    }
+
+    #[tactic(auto, unfolding(crate::specs::inner::CertReading::box_or_none_at, // and how readings follow one another
+    crate::specs::inner::reading::Readings::followed, crate::specs::inner::reading::Readings::either, crate::specs::inner::reading::Readings::give))]
+    fn box_or_style_without_lines(&mut self) -> Result<Style, Fault>
+        ensures { Gives (λ x. x) result self.new.rest.now (read.box_or_none_at self.old.rest.now) }
+    {
+        if self.next_is(b'b') {
+            self.word(b"box ")?;
+            return Ok(Style::Box);
+        }
         self.style_without_lines()
     }
 

@@ -260,6 +260,8 @@ fn put_style(out: &mut List<u8>, style: Style) -> Result<(), AllocError>
         Style::Plain => out.extend_from_slice(b"plain "),
         Style::Compact => out.extend_from_slice(b"compact "),
         Style::Frame => out.extend_from_slice(b"frame "),
+        Style::Grid => out.extend_from_slice(b"grid "),
+        Style::Box => out.extend_from_slice(b"box "),
     }
 }
 

@@ -23,7 +23,9 @@ tablelayout 1 25 plain 3;lowest 4;section 0 25 4 4 3 3;widths 1 1 4 4;\
     cut 0 0 0;cut 1 1 0;cut 3 2 0;2-8 chain;2+9 chain;z0 @0 @1 fired;end; => read
 tablelayout 2 7 plain 0;lowest 2;section 0 7 2 2 0 1;widths 1 1;z0 area;end; => read
 tablelayout 1 1 frame 0;lowest 0;section 0 1 0 0 0 1;widths;0-3 0+4 cycle;end; => read
-tablelayout 1 9 compact 6;lowest 2;section 0 9 2 2 0 1;widths 3 5;z0 chain;end; => read";
+tablelayout 1 9 compact 6;lowest 2;section 0 9 2 2 0 1;widths 3 5;z0 chain;end; => read
+tablelayout 1 10 grid 0;narrow 11;chain 0 0 1;end; => read
+tablelayout 1 10 box 0;narrow 11;chain 0 0 1;end; => read";
 
 // A number is as long as its digits go on, past 64 bits too, whatever follows it. A second zero is wrong in the
 // number of a claim too. Chains stand with `narrow` and sections with the others, and no area with `narrow`.
@@ -38,6 +40,8 @@ tablelayout 1 18446744073709551616 plain => range at 14
 tablelayout 1 99999999999999999999x => range at 14
 tablelayout 1 12 fancy 6; => syntax at 18
 tablelayout 1 12 cramped 6; => syntax at 18
+tablelayout 1 12 grad 6; => syntax at 19
+tablelayout 1 12 boxes 6; => syntax at 20
 tablelayout 1 12 compacts 6; => syntax at 24
 tablelayout 1 12 plain 6;lowest 02 => syntax at 33
 tablelayout 1 12 plain 6;lowest 2;chain 0 0;end; => syntax at 34

@@ -3,7 +3,7 @@ use Rattle.std.proofs.Common.{◌≡◌, ℕ, Bool, true, false, eqb, List, [], 
 use Rattle.std.specs.Prelude.{codes}
 use Rattle.std.specs.List.{flat_map}
 use Rattle.tl_base.specs.declared.style.Style.{Style}
-use Rattle.tl_base.specs.declared.style.Style.TheVariants.{Plain, Compact, Frame}
+use Rattle.tl_base.specs.declared.style.Style.TheVariants.{Plain, Compact, Frame, Grid, Box}
 use Rattle.tl_base.specs.declared.chain.Chain.{Chain}
 use Rattle.tl_cert.specs.declared.section.Section.{Section}
 use Rattle.tl_cert.specs.declared.certificate.Claim.{Claim}
@@ -14,7 +14,7 @@ use Rattle.tl_cert.specs.Pieces.{TextPiece, field, word, spell}
 use Rattle.tl_cert.specs.Text.{space, line_feed, version_word, style_field, claim_pieces, chain_pieces, IsNarrow}
 use Rattle.tl_cert.specs.Text.{section_pieces, cert_pieces, has_area, HasChains, HasSections, HasProof, IsShaped}
 use Rattle.tl_cert.specs.inner.Areas.{Suits}
-use Rattle.tl_cert.specs.inner.CertReading.{version_at, no_lines_at, style_at, lowest_at, bounded_at, narrow_at}
+use Rattle.tl_cert.specs.inner.CertReading.{version_at, no_lines_at, box_or_none_at, no_frame_at, style_at, lowest_at, bounded_at, narrow_at}
 use Rattle.tl_cert.specs.inner.CertReading.{other_claim_at, claim_at, areas_of, sections_at, proof_at, certificate_at}
 use Rattle.tl_cert.specs.inner.reading.Readings.{◌>>=◌, give, begins}
 use Rattle.tl_cert.specs.inner.reading.Lists.{Listing, listing}
@@ -53,10 +53,19 @@ style_pieces s = word (style_field s)
 abbrev HasNoLines : Style → Type 0
 HasNoLines style = (style ≡ Compact) ⊎ (style ≡ Plain)
 
-style_separated : (s : Style) → (s ≡ Frame) ⊎ HasNoLines s
+abbrev IsBoxOrNone : Style → Type 0
+IsBoxOrNone style = (style ≡ Box) ⊎ HasNoLines style
+
+-- a style other than the frame
+abbrev IsNoFrame : Style → Type 0
+IsNoFrame style = (style ≡ Grid) ⊎ IsBoxOrNone style
+
+style_separated : (s : Style) → (s ≡ Frame) ⊎ IsNoFrame s
 style_separated Frame = inl refl
-style_separated Compact = inr (inl refl)
-style_separated Plain = inr (inr refl)
+style_separated Grid = inr (inl refl)
+style_separated Box = inr (inr (inl refl))
+style_separated Compact = inr (inr (inr (inl refl)))
+style_separated Plain = inr (inr (inr (inr refl)))
 
 -- a style that is this one begins as this one's word does
 style_begins : (test : ℕ → Bool) (one s : Style) (t : List ℕ) → s ≡ one →
@@ -76,21 +85,56 @@ exact_no_lines =
     exact_either (exact_sign (codes "compact ") Compact style_pieces refl) (exact_sign (codes "plain ") Plain style_pieces refl)
     chosen
 
-no_frame : (s : Style) (t : List ℕ) → HasNoLines s → begins (λ c. eqb c 102) (spell (style_pieces s) ++ t) ≡ false
-no_frame s t (inl is) = style_begins (λ c. eqb c 102) Compact s t is
-no_frame s t (inr is) = style_begins (λ c. eqb c 102) Plain s t is
+no_box : (s : Style) (t : List ℕ) → HasNoLines s → begins (λ c. eqb c 98) (spell (style_pieces s) ++ t) ≡ false
+no_box s t (inl is) = style_begins (λ c. eqb c 98) Compact s t is
+no_box s t (inr is) = style_begins (λ c. eqb c 98) Plain s t is
+
+exact_box_or_none : Exact box_or_none_at IsBoxOrNone style_pieces
+unfolding box_or_none_at
+exact_box_or_none =
+    let chosen : Chosen (λ c. eqb c 98) style_pieces (λ (s : Style). s ≡ Box) HasNoLines IsBoxOrNone = record {
+      separated = λ s is. is;
+      first = λ s is. inl is;
+      other = λ s is. inr is;
+      yes = λ s t is. style_begins (λ c. eqb c 98) Box s t is;
+      no = no_box;
+    } in
+    exact_either (exact_sign (codes "box ") Box style_pieces refl) exact_no_lines chosen
+
+no_grid : (s : Style) (t : List ℕ) → IsBoxOrNone s → begins (λ c. eqb c 103) (spell (style_pieces s) ++ t) ≡ false
+no_grid s t (inl is) = style_begins (λ c. eqb c 103) Box s t is
+no_grid s t (inr (inl is)) = style_begins (λ c. eqb c 103) Compact s t is
+no_grid s t (inr (inr is)) = style_begins (λ c. eqb c 103) Plain s t is
+
+exact_no_frame : Exact no_frame_at IsNoFrame style_pieces
+unfolding no_frame_at
+exact_no_frame =
+    let chosen : Chosen (λ c. eqb c 103) style_pieces (λ (s : Style). s ≡ Grid) IsBoxOrNone IsNoFrame = record {
+      separated = λ s is. is;
+      first = λ s is. inl is;
+      other = λ s is. inr is;
+      yes = λ s t is. style_begins (λ c. eqb c 103) Grid s t is;
+      no = no_grid;
+    } in
+    exact_either (exact_sign (codes "grid ") Grid style_pieces refl) exact_box_or_none chosen
+
+no_frame : (s : Style) (t : List ℕ) → IsNoFrame s → begins (λ c. eqb c 102) (spell (style_pieces s) ++ t) ≡ false
+no_frame s t (inl is) = style_begins (λ c. eqb c 102) Grid s t is
+no_frame s t (inr (inl is)) = style_begins (λ c. eqb c 102) Box s t is
+no_frame s t (inr (inr (inl is))) = style_begins (λ c. eqb c 102) Compact s t is
+no_frame s t (inr (inr (inr is))) = style_begins (λ c. eqb c 102) Plain s t is
 
 exact_style : Exact style_at IsAny style_pieces
 unfolding style_at
 exact_style =
-    let chosen : Chosen (λ c. eqb c 102) style_pieces (λ (s : Style). s ≡ Frame) HasNoLines IsAny = record {
+    let chosen : Chosen (λ c. eqb c 102) style_pieces (λ (s : Style). s ≡ Frame) IsNoFrame IsAny = record {
       separated = λ s is. style_separated s;
       first = λ s is. tt;
       other = λ s is. tt;
       yes = λ s t is. style_begins (λ c. eqb c 102) Frame s t is;
       no = no_frame;
     } in
-    exact_either (exact_sign (codes "frame ") Frame style_pieces refl) exact_no_lines chosen
+    exact_either (exact_sign (codes "frame ") Frame style_pieces refl) exact_no_frame chosen
 
 -- ---- the claim
 
