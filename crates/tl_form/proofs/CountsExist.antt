@@ -1,11 +1,12 @@
 -- A sound table that fits a page has a true problem there, and a count, and so have the tables nested in it.
+use Rattle.tl_base.specs.Style.{spacing_of}
 use Rattle.std.proofs.Common.{◌≡◌, ℕ, zero, suc, ◌≤◌, ◌⊎◌, inl, inr, List, [], ◌∷◌, length, Contains, refl, sym, subst, arith}
 use Rattle.std.specs.List.{AllZip, AllByRecursion}
 use Rattle.std.proofs.lemmas.Bool.{cases_lt}
 use Rattle.std.proofs.lemmas.List.{get_or-map, length-map}
 use Rattle.std.proofs.lemmas.List.Elements.{recursion_from_All}
 use Rattle.tl_base.specs.declared.style.Style.{Style}
-use Rattle.tl_base.specs.Style.{gap_of, row_gap_of, edge_of}
+use Rattle.tl_base.specs.Style.{gap_of, row_gap_of, edges_of}
 use Rattle.tl_base.proofs.Members.{Contains-cases, Contains-first, Contains-later, Contains-none, AllByRecursion-weaker}
 use Rattle.tl_grid.specs.Dropping.{IsPlaced}
 use Rattle.tl_problem.specs.declared.cell.Cell.{Cell}
@@ -86,7 +87,7 @@ module _ (style : Style) where
       (low.0, low.1)
 
   cells-need : (page : ℕ) (table : OpenTable) (layout : OpenLayout) → length layout.widths ≡ table.cols →
-      total (gap_of style) (edge_of style) layout.widths ≤ page → (cells : List TableCell) (parts : List (List Layout)) →
+      total (gap_of style) (edges_of style) layout.widths ≤ page → (cells : List TableCell) (parts : List (List Layout)) →
       AllByRecursion (λ cell. AllByRecursion (Settles style) (tables_in (out-TableCell cell))) cells →
       AllByRecursion (λ cell. IsPlaced table.cols table.rows (place_of cell)) cells →
       AllZip (λ cell inner. FitsCell Any style layout (out-TableCell cell) inner) cells parts →
@@ -103,7 +104,7 @@ module _ (style : Style) where
           within =
               omega (
                 arith,
-                room-total (gap_of style) (edge_of style) layout.widths (place_of cell).left (place_of cell).right placed.0.0
+                room-total (gap_of style) (edges_of style) layout.widths (place_of cell).left (place_of cell).right placed.0.0
                     (omega (arith, placed.0.1, columns)),
                 narrow,
               );
@@ -188,8 +189,8 @@ module _ (style : Style) where
       pub true-problem : (problem : ProblemModel) × IsTrueProblem table style page problem
       true-problem =
           let made = true-cells (out-Table table).cells each needs in (
-            record { cols = (out-Table table).cols; rows = (out-Table table).rows; style = style; width = page; cells = made.0 },
-            record { columns = refl; lines = refl; drawn = refl; wide = refl; made = made.1 },
+            record { cols = (out-Table table).cols; rows = (out-Table table).rows; spacing = spacing_of style; width = page; cells = made.0 },
+            record { columns = refl; lines = refl; spaced = refl; wide = refl; made = made.1 },
           )
 
       pub inner-fits : AllByRecursion (λ nested. (h : ℕ) × (one : Layout) × Fits nested style page h one)

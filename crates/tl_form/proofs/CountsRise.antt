@@ -1,4 +1,5 @@
 -- On a wider page a table has at least as many ways: the same spans, and for each at least as many classes.
+use Rattle.tl_base.specs.declared.spacing.Spacing.{Spacing}
 use Rattle.std.proofs.Common.{◌≡◌, ℕ, zero, suc, ◌+◌, ◌-◌, ◌^◌, ◌≤◌, inl, inr, min, Bool, true, false, cond, ◌==◌, ◌&&◌, ◌||◌}
 use Rattle.std.proofs.Common.{List, [], ◌∷◌, ◌++◌, length, map, filter, Contains, refl, sym, ap, subst, ◌∙◌, arith}
 use Rattle.std.specs.List.{AllZip, list_any, range_with_len}
@@ -8,7 +9,6 @@ use Rattle.std.proofs.lemmas.List.Elements.{All-contains, Contains-append_left, 
 use Rattle.std.proofs.lemmas.List.Folds.{Any-from_list_any, list_any_at}
 use Rattle.tl_base.specs.declared.steps.Config.{Config}
 use Rattle.tl_base.specs.declared.style.Style.{Style}
-use Rattle.tl_base.specs.Style.{edge_of}
 use Rattle.tl_base.specs.Steps.{first_height, first_width, height_at}
 use Rattle.tl_base.proofs.Stacking.{first_width-within}
 use Rattle.tl_problem.specs.declared.cell.Cell.{Cell}
@@ -155,7 +155,7 @@ product-le f g less (x ∷ xs) =
 
 -- ---- classes and counts
 
-module _ (short long : ProblemModel) (cols : short.cols ≡ long.cols) (style : short.style ≡ long.style)
+module _ (short long : ProblemModel) (cols : short.cols ≡ long.cols) (spacing : short.spacing ≡ long.spacing)
     (wider : short.width ≤ long.width)
     (stay : AllZip Stays short.cells long.cells) where
   has-same : (columns : Span) (a b : Cell) → Stays a b → has_span columns a ≡ has_span columns b
@@ -187,7 +187,7 @@ module _ (short long : ProblemModel) (cols : short.cols ≡ long.cols) (style : 
       let begins = λ (w : ℕ). zip-implies Stays (λ cell. list_any (λ step. step.width == w) (cell.low ++ cell.high))
       (λ cell. list_any (λ step. step.width == w) (cell.low ++ cell.high)) (begins-stays w) (cells_of short columns)
       (cells_of long columns) cells in
-      let room : page_room short ≤ page_room long = omega (arith, wider, ap edge_of style) in
+      let room : page_room short ≤ page_room long = omega (arith, wider, ap (λ (s : Spacing). s.edges) spacing) in
       let pass = more-pass (begins_step short columns) (begins_step long columns) begins (least_width short columns + 1)
       (page_room short - least_width short columns) (page_room long - least_width short columns) (omega (arith, room)) in
       let same = ap (λ n. length (filter (begins_step long columns) (range_with_len (n + 1) (page_room long - n)))) least in
@@ -217,6 +217,6 @@ pub counts-rise : (lows highs : Table → ℕ → ℕ → Type 0) (style : Style
     IsProblemBy lows highs style narrow (out-Table table) short → IsProblemBy lows highs style wide (out-Table table) long →
     count_of short ≤ count_of long
 counts-rise lows highs style narrow wide table short long within first second =
-    count-more short long (first.columns ∙ sym second.columns) (first.drawn ∙ sym second.drawn)
+    count-more short long (first.columns ∙ sym second.columns) (first.spaced ∙ sym second.spaced)
     (omega (arith, first.wide, second.wide, within))
     (cells-stay lows highs narrow wide within (out-Table table).cells short.cells long.cells first.made second.made)

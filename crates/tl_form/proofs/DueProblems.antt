@@ -1,5 +1,6 @@
 -- Where the sections so far are good, the next one that is due has a problem: the tables nested in its own have steps by the
 -- sections, and each problem with them is sound.
+use Rattle.tl_base.specs.declared.spacing.Spacing.{Spacing}
 use Rattle.std.proofs.Common.{◌≡◌, ◌∙◌, ℕ, zero, suc, ◌+◌, ◌*◌, ◌<◌, ◌≤◌, List, inl, inr, length, get_or, take}
 use Rattle.std.proofs.Common.{Some, Contains, refl, sym, ap, subst, arith}
 use Rattle.std.specs.List.{All, AllByRecursion}
@@ -9,7 +10,7 @@ use Rattle.std.proofs.lemmas.List.Elements.{All-nil, All-more, All-get_or, All-c
 use Rattle.tl_base.specs.declared.limits.TheConstants.{MAX_PAGE_WIDTH}
 use Rattle.tl_base.specs.declared.style.Style.{Style}
 use Rattle.tl_base.specs.Steps.{IsLowAt, first_width, first_height}
-use Rattle.tl_base.specs.Style.{gap_of, edge_of}
+use Rattle.tl_base.specs.Style.{gap_of, edges_of}
 use Rattle.tl_base.proofs.Members.{flat_map-Contains, All-from_Contains, Contains-map}
 use Rattle.tl_base.proofs.Zips.{AllZip-Contains}
 use Rattle.tl_base.proofs.Stacking.{first_width-within}
@@ -85,7 +86,7 @@ nested_narrower style table nested least inner sound has outer own =
         (tables_in-fit (FitsWithin depth style) w (height_for style (out-Layout layout) place) (out-TableCell cell)
         part.0 part.1)) in_cell.2 in
         let placed = cell_within table sound cell in_cell.1 in
-        let narrow = room-total (gap_of style) (edge_of style) (out-Layout layout).widths place.left place.right placed.0
+        let narrow = room-total (gap_of style) (edges_of style) (out-Layout layout).widths place.left place.right placed.0
         (omega (arith, placed.1, held.columns)) in
         omega (arith, own.least w fit.0 fit.1 (depth, fit.2), narrow, held.within)
 
@@ -235,8 +236,8 @@ good_follows document budget before section good = record {
 } where
   placed_as : total_width good.problem good.laid.placed.widths ≡ placed_width document.style section
   placed_as =
-      ap (λ style. total (gap_of style) (edge_of style) good.laid.placed.widths) good.laid.own.made.drawn
-      ∙ ap (total (gap_of document.style) (edge_of document.style)) good.laid.placement.wide
+      ap (λ (s : Spacing). total s.gap s.edges good.laid.placed.widths) good.laid.own.made.spaced
+      ∙ ap (total (gap_of document.style) (edges_of document.style)) good.laid.placement.wide
 
 module _ (by_low : LayoutsAreByLow) (by_high : LayoutsByHighFit) (sound_alone : SoundProblemsAlone) (are_low : PlacementsAreLow)
     (document : Document) (on : IsOnPage document) (budget : ℕ) where

@@ -6,7 +6,7 @@ use Rattle.std.proofs.lemmas.Bool.{cases_lt}
 use Rattle.std.proofs.lemmas.List.{get_or-map, length-map, length-replicate}
 use Rattle.std.proofs.lemmas.List.Elements.{recursion_from_All}
 use Rattle.tl_base.specs.declared.style.Style.{Style}
-use Rattle.tl_base.specs.Style.{gap_of, row_gap_of, edge_of}
+use Rattle.tl_base.specs.Style.{gap_of, row_gap_of, edges_of}
 use Rattle.tl_base.proofs.Members.{AllByRecursion-weaker}
 use Rattle.tl_grid.specs.Dropping.{IsPlaced}
 use Rattle.tl_base.specs.Sizes.{room, total}
@@ -169,7 +169,7 @@ module _ (style : Style) where
     pub record IsGood (page : ℕ) (widths heights : List ℕ) : Type 0 where
       pub columns : length widths ≡ table.cols
       pub rows : length heights ≡ table.rows
-      pub narrow : total (gap_of style) (edge_of style) widths ≤ page
+      pub narrow : total (gap_of style) (edges_of style) widths ≤ page
       pub held : AllHeld widths heights table.cells
 
     parts-of : (widths heights : List ℕ) (cells : List TableCell) → AllHeld widths heights cells →
@@ -183,7 +183,7 @@ module _ (style : Style) where
         (first.0 ∷ rest.0, (first.1, rest.1))
 
     good-fits : (page : ℕ) (widths heights : List ℕ) → IsGood page widths heights →
-        (layout : OpenLayout) × FitsBy Any style table page (total (row_gap_of style) (edge_of style) heights) layout
+        (layout : OpenLayout) × FitsBy Any style table page (total (row_gap_of style) (edges_of style) heights) layout
     good-fits page widths heights good =
         let parts = parts-of widths heights table.cells good.held in (
           record { widths = widths; heights = heights; inner = flat_map (λ inner. inner) parts.0 },
@@ -229,7 +229,7 @@ module _ (style : Style) where
     -- ---- the least of them
 
     abbrev total_of : List ℕ → ℕ
-    total_of heights = total (row_gap_of style) (edge_of style) heights
+    total_of heights = total (row_gap_of style) (edges_of style) heights
 
     -- good sizes that are lower
     abbrev IsLower : ℕ → ℕ → List ℕ → List ℕ → Type 0
@@ -247,7 +247,7 @@ module _ (style : Style) where
                 | inl few ↦ inr (λ is. omega (arith, is.0.rows, few))
                 | inr some ↦ elim (cases_lt table.rows (length heights)) [
                   | inl many ↦ inr (λ is. omega (arith, is.0.rows, many))
-                  | inr rows ↦ elim (cases_lt page (total (gap_of style) (edge_of style) widths)) [
+                  | inr rows ↦ elim (cases_lt page (total (gap_of style) (edges_of style) widths)) [
                     | inl wide ↦ inr (λ is. omega (arith, is.0.narrow, wide))
                     | inr narrow ↦ elim (cases_lt (total_of heights) height) [
                       | inr high ↦ inr (λ is. omega (arith, is.1, high))
@@ -275,8 +275,8 @@ module _ (style : Style) where
         decide-some table.cols page (λ widths. Found table.rows (λ heights. IsLower page height widths heights))
         (λ widths. decide-some table.rows height (λ heights. IsLower page height widths heights)
         (λ heights. decide-lower page height widths heights)
-        (λ heights is. total-within (row_gap_of style) (edge_of style) height heights (omega (arith, is.1))))
-        (λ widths found. total-within (gap_of style) (edge_of style) page widths found.2.0.narrow)
+        (λ heights is. total-within (row_gap_of style) (edges_of style) height heights (omega (arith, is.1))))
+        (λ widths found. total-within (gap_of style) (edges_of style) page widths found.2.0.narrow)
 
     -- the least total height of good sizes
     pub record IsLeastGood (page : ℕ) : Type 0 where
@@ -329,17 +329,17 @@ module _ (style : Style) where
     )
 
     abbrev IsWide : ℕ → List ℕ → Type 0
-    IsWide page widths = (total (gap_of style) (edge_of style) widths ≤ page) × AllNeed widths table.cells
+    IsWide page widths = (total (gap_of style) (edges_of style) widths ≤ page) × AllNeed widths table.cells
 
     some-wide : (page : ℕ) → Decides (Found table.cols (IsWide page))
     some-wide page =
         decide-some table.cols page (IsWide page)
-        (λ widths. elim (cases_lt page (total (gap_of style) (edge_of style) widths)) [
+        (λ widths. elim (cases_lt page (total (gap_of style) (edges_of style) widths)) [
           | inl wide ↦ inr (λ is. omega (arith, is.0, wide))
           | inr narrow ↦ elim (decide-need widths table.cells settle)
               [ inl need ↦ inl (narrow, need) | inr not ↦ inr (λ is. not is.1) ]
         ])
-        (λ widths is. total-within (gap_of style) (edge_of style) page widths is.0)
+        (λ widths is. total-within (gap_of style) (edges_of style) page widths is.0)
 
     need-held : (widths heights : List ℕ) (cells : List TableCell) → AllHeld widths heights cells → AllNeed widths cells
     need-held widths heights [] held = tt
@@ -380,11 +380,11 @@ module _ (style : Style) where
         | inl least ↦
             let fits = good-fits (out-Table table) each placed page least.widths least.heights least.good in
             inl (
-              total (row_gap_of style) (edge_of style) least.heights,
+              total (row_gap_of style) (edges_of style) least.heights,
               record {
                 attained = (
                   roll-Layout fits.0,
-                  fits-rolled style table page (total (row_gap_of style) (edge_of style) least.heights) fits.0 fits.1,
+                  fits-rolled style table page (total (row_gap_of style) (edges_of style) least.heights) fits.0 fits.1,
                 );
                 least = least-of least;
               },
@@ -405,7 +405,7 @@ module _ (style : Style) where
 
       least-of : (least : IsLeastGood (out-Table table) each placed page) → (other : ℕ) (layout : Layout) →
           Fits table style page other layout →
-          total (row_gap_of style) (edge_of style) least.heights ≤ other
+          total (row_gap_of style) (edges_of style) least.heights ≤ other
       least-of least other layout (zero, held) = absurd held
       least-of least other layout (suc depth, held) =
           let good = fits-good (out-Table table) each placed page other (out-Layout layout)

@@ -1,5 +1,6 @@
 -- No placement needs more than two lines for all that the table holds: rows that are as high as all cells that begin in
 -- them, one under the other, are enough.
+use Rattle.tl_base.specs.declared.spacing.Spacing.{Spacing}
 use Rattle.std.proofs.Common.{◌≡◌, ℕ, zero, suc, ◌+◌, ◌-◌, ◌*◌, ◌<◌, ◌≤◌, ◌==◌, cond, inl, inr, List, [], ◌∷◌, length}
 use Rattle.std.proofs.Common.{get_or, map, sum_by, refl, ap, ◌∙◌, arith}
 use Rattle.std.specs.List.{AllByRecursion, range_with_len}
@@ -8,8 +9,8 @@ use Rattle.std.proofs.lemmas.List.{length-map}
 use Rattle.std.proofs.lemmas.List.FromFn.{length-range_with_len, get_or-map-range_with_len}
 use Rattle.std.proofs.lemmas.List.Sums.{sum_by-cons}
 use Rattle.tl_base.specs.declared.style.Style.{Style}
-use Rattle.tl_base.specs.declared.style.Style.TheVariants.{Plain, Compact, Frame}
-use Rattle.tl_base.specs.Style.{row_gap_of, edge_of}
+use Rattle.tl_base.specs.declared.style.Style.TheVariants.{Plain, Compact, Frame, Grid, Box}
+use Rattle.tl_base.specs.Style.{spacing_of}
 use Rattle.tl_base.specs.Steps.{first_height}
 use Rattle.tl_problem.specs.declared.cell.Cell.{Cell}
 use Rattle.tl_base.specs.Sizes.{room, total}
@@ -144,25 +145,30 @@ rows-enough gap made n k d inside ahead within =
       weight-le made k d inside,
     )
 
--- gaps and edges are no more than the rows and one line
-by-style : (style : Style) (n : ℕ) → 0 < n → row_gap_of style * (n - 1) + 2 * edge_of style ≤ n + 1
-by-style Plain n some = omega arith
-by-style Compact n some = omega arith
-by-style Frame n some = omega (arith, some)
+-- the gaps between rows and the lines beside them are no more than the rows and one line
+abbrev pub IsLight : Spacing → Type 0
+IsLight spacing = (n : ℕ) → 0 < n → spacing.row_gap * (n - 1) + spacing.lines ≤ n + 1
 
-pub rows-total : (style : Style) (made : List Cell) (n : ℕ) →
+pub style-light : (style : Style) → IsLight (spacing_of style)
+style-light Plain n some = omega arith
+style-light Compact n some = omega arith
+style-light Frame n some = omega (arith, some)
+style-light Grid n some = omega (arith, some)
+style-light Box n some = omega (arith, some)
+
+pub rows-total : (spacing : Spacing) → IsLight spacing → (made : List Cell) (n : ℕ) →
     AllByRecursion (λ row. 1 ≤ row_weight made row) (range_with_len 0 n) →
-    total (row_gap_of style) (edge_of style) (row_heights made n) ≤ sum_by (λ one. first_height one.high + 1) made + 1
-rows-total style made zero some = omega arith
-rows-total style made (suc n) some =
+    total spacing.row_gap spacing.lines (row_heights made n) ≤ sum_by (λ one. first_height one.high + 1) made + 1
+rows-total spacing light made zero some = omega arith
+rows-total spacing light made (suc n) some =
     let long = length-rows made (suc n) in
-    let whole = total-ahead (row_gap_of style) (edge_of style) (row_heights made (suc n)) (omega (arith, long)) in
-    let count = ap (λ k. row_gap_of style * (k - 1)) long in
+    let whole = total-ahead spacing.row_gap spacing.lines (row_heights made (suc n)) (omega (arith, long)) in
+    let count = ap (λ k. spacing.row_gap * (k - 1)) long in
     omega (
       arith,
       whole,
       count,
-      by-style style (suc n) (omega arith),
+      light (suc n) (omega arith),
       heights-sum made (range_with_len 0 (suc n)) some,
       length-range_with_len 0 (suc n),
       rows-weight made (suc n),

@@ -1,5 +1,6 @@
 -- The layout that a certificate names fits: each table of it stands by the placement of its section, in which the layouts
 -- of the tables nested in it have room.
+use Rattle.tl_base.specs.declared.spacing.Spacing.{Spacing}
 use Rattle.std.proofs.Common.{◌≡◌, ◌∙◌, ℕ, zero, suc, ◌-◌, ◌<◌, ◌≤◌, List, [], ◌∷◌, ◌++◌, ◌⊎◌, inl, inr, length, get_or, take}
 use Rattle.std.proofs.Common.{sum, sum_by}
 use Rattle.std.proofs.Common.{Option, Some, None, refl, sym, ap, subst, arith}
@@ -10,7 +11,7 @@ use Rattle.std.proofs.lemmas.List.Concat.{flat_map-cons}
 use Rattle.std.proofs.lemmas.List.Elements.{All-get_or, recursion_from_All}
 use Rattle.std.proofs.lemmas.List.Sums.{sum_by-cons}
 use Rattle.tl_base.specs.declared.style.Style.{Style}
-use Rattle.tl_base.specs.Style.{gap_of, row_gap_of, edge_of}
+use Rattle.tl_base.specs.Style.{gap_of, row_gap_of, edges_of}
 use Rattle.tl_base.specs.Steps.{IsLowAt, height_at}
 use Rattle.tl_base.proofs.Members.{Contains-first, Contains-later, Contains-cases, Contains-none, Contains-flat_map}
 use Rattle.tl_base.proofs.Sums.{sum-cons}
@@ -128,7 +129,7 @@ low_height None h low = absurd low
 low_height (Some n) h low = (n, refl, low)
 
 module _ (style : Style) (lows highs : Table → ℕ → ℕ → Type 0) (page : ℕ) (widths heights : List ℕ)
-    (narrow : total (gap_of style) (edge_of style) widths ≤ page) where
+    (narrow : total (gap_of style) (edges_of style) widths ≤ page) where
   -- the cell lies in the columns, and its `high` is within its room
   pub record IsFine (made : Cell) : Type 0 where
     pub some : made.left < made.right
@@ -158,7 +159,7 @@ module _ (style : Style) (lows highs : Table → ℕ → ℕ → Type 0) (page :
       let down : room (row_gap_of style) heights made.top made.bottom ≡ room (row_gap_of style) heights place.top place.bottom =
       ap (λ top. room (row_gap_of style) heights top made.bottom) is.top ∙ ap
       (λ bottom. room (row_gap_of style) heights place.top bottom) is.bottom in
-      let within = room-total (gap_of style) (edge_of style) widths made.left made.right fine.some fine.within in
+      let within = room-total (gap_of style) (edges_of style) widths made.left made.right fine.some fine.within in
       let low = low_height (height_at made.high (room (gap_of style) widths made.left made.right))
       (room (row_gap_of style) heights made.top made.bottom) fine.low in
       let need = (is.high.each (room (gap_of style) widths place.left place.right) low.0
@@ -187,14 +188,14 @@ module _ (table : Table) (style : Style) (page : ℕ) (inner : List InnerSteps) 
   abbrev highs : Table → ℕ → ℕ → Type 0
   highs = InnerNeeds (λ one. one.high) inner
 
-  fits_page : total (gap_of style) (edge_of style) placed.widths ≤ page
-  fits_page = subst (λ w. total (gap_of style) (edge_of style) placed.widths ≤ w) of.wide
-      (subst (λ s. total (gap_of s) (edge_of s) placed.widths ≤ problem.width) of.drawn placement.page.page)
+  fits_page : total (gap_of style) (edges_of style) placed.widths ≤ page
+  fits_page = subst (λ w. total (gap_of style) (edges_of style) placed.widths ≤ w) of.wide
+      (subst (λ (s : Spacing). total s.gap s.edges placed.widths ≤ problem.width) of.spaced placement.page.page)
 
   low_enough : All (λ one. IsLowAt one.high (room (row_gap_of style) placed.heights one.top one.bottom)
       (room (gap_of style) placed.widths one.left one.right)) problem.cells
-  low_enough = subst (λ s. All (λ one. IsLowAt one.high (room (row_gap_of s) placed.heights one.top one.bottom)
-      (room (gap_of s) placed.widths one.left one.right)) problem.cells) of.drawn placement.rows.kind.cells
+  low_enough = subst (λ (s : Spacing). All (λ one. IsLowAt one.high (room s.row_gap placed.heights one.top one.bottom)
+      (room s.gap placed.widths one.left one.right)) problem.cells) of.spaced placement.rows.kind.cells
 
   all_fine : AllByRecursion (IsFine style (InnerNeeds (λ one. one.low) inner) highs page placed.widths placed.heights fits_page)
       problem.cells
@@ -232,7 +233,7 @@ module _ (table : Table) (style : Style) (page : ℕ) (inner : List InnerSteps) 
               omega (
                 arith,
                 across,
-                room-total (gap_of style) (edge_of style)
+                room-total (gap_of style) (edges_of style)
                     placed.widths one.left one.right fine.0.some fine.0.within,
                 fits_page,
               )
@@ -252,15 +253,15 @@ module _ (table : Table) (style : Style) (page : ℕ) (inner : List InnerSteps) 
       AllZip (λ cell part. AllZip (IsEnoughFor style highs (room (gap_of style) placed.widths (out-TableCell cell).place.left
       (out-TableCell cell).place.right)) (tables_in (out-TableCell cell)) part) (out-Table table).cells parts →
       flat_map (λ part. part) parts ≡ (out-Layout layout).inner →
-      Fits table style (total (gap_of style) (edge_of style) placed.widths)
-      (total (row_gap_of style) (edge_of style) placed.heights) layout
+      Fits table style (total (gap_of style) (edges_of style) placed.widths)
+      (total (row_gap_of style) (edges_of style) placed.heights) layout
   given_fits layout parts wide high given joined =
-      let any = fits-from_any style (out-Table table) (total (gap_of style) (edge_of style) placed.widths)
-      (total (row_gap_of style) (edge_of style) placed.heights) (out-Layout layout) (record {
+      let any = fits-from_any style (out-Table table) (total (gap_of style) (edges_of style) placed.widths)
+      (total (row_gap_of style) (edges_of style) placed.heights) (out-Layout layout) (record {
         columns = ap length wide ∙ placement.page.columns ∙ of.columns;
         rows = ap length high ∙ placement.rows.kind.rows ∙ of.lines;
-        within = omega (arith, ap (total (gap_of style) (edge_of style)) wide);
-        high = ap (total (row_gap_of style) (edge_of style)) high;
+        within = omega (arith, ap (total (gap_of style) (edges_of style)) wide);
+        high = ap (total (row_gap_of style) (edges_of style)) high;
         parts = parts;
         cells = subst (λ widths. AllZip (λ cell part. FitsRoom (λ nested v h one. Fits nested style v h one)
             (room (gap_of style) widths (out-TableCell cell).place.left (out-TableCell cell).place.right)
@@ -390,12 +391,12 @@ module _ (document : Document) (sound : IsSound document.table) (budget : ℕ) (
       let fits = given_fits one document.style (at i).width own.inner by.0 made own.sound placed placement layout laid.parts
       laid.columns laid.lines given
       laid.given in
-      let wide : total (gap_of document.style) (edge_of document.style) placed.widths ≡ placed_width document.style (at i) =
-      ap (total (gap_of document.style) (edge_of document.style)) by.2.wide in
-      let high : total (row_gap_of document.style) (edge_of document.style) placed.heights ≡ (at i).height =
-      ap (λ s. total (row_gap_of s) (edge_of s) placed.heights) (sym own.made.drawn) ∙ sym placement.height ∙ by.2.high in
+      let wide : total (gap_of document.style) (edges_of document.style) placed.widths ≡ placed_width document.style (at i) =
+      ap (total (gap_of document.style) (edges_of document.style)) by.2.wide in
+      let high : total (row_gap_of document.style) (edges_of document.style) placed.heights ≡ (at i).height =
+      ap (λ (s : Spacing). total s.row_gap s.lines placed.heights) (sym own.made.spaced) ∙ sym placement.height ∙ by.2.high in
       subst (λ h. Fits one document.style (placed_width document.style (at i)) h layout) high
-      (subst (λ w. Fits one document.style w (total (row_gap_of document.style) (edge_of document.style) placed.heights) layout)
+      (subst (λ w. Fits one document.style w (total (row_gap_of document.style) (edges_of document.style) placed.heights) layout)
       wide fits)
 
 -- ---- for a certificate

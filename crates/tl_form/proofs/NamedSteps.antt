@@ -1,4 +1,5 @@
 -- The layout that a certificate names, cell by cell.
+use Rattle.tl_base.specs.declared.spacing.Spacing.{Spacing}
 use Rattle.std.proofs.Common.{◌≡◌, ◌∙◌, ℕ, zero, suc, ◌+◌, ◌-◌, ◌<◌, ◌≤◌, inl, Result, Ok, Err, IfOk, List, [], ◌∷◌, ◌++◌, length}
 use Rattle.std.proofs.Common.{get_or, take, sum}
 use Rattle.std.proofs.Common.{Option, None, Some, Contains, MatchOption, sym, ap, subst, refl, append_assoc, append-nil, arith}
@@ -11,7 +12,7 @@ use Rattle.std.proofs.lemmas.List.Elements.{All-contains, All-from_recursion, Al
 use Rattle.tl_base.specs.declared.limits.TheConstants.{MAX_PAGE_WIDTH}
 use Rattle.tl_base.specs.declared.style.Style.{Style}
 use Rattle.tl_base.specs.Steps.{first_width, height_at}
-use Rattle.tl_base.specs.Style.{gap_of, edge_of}
+use Rattle.tl_base.specs.Style.{gap_of, edges_of}
 use Rattle.tl_base.proofs.Members.{All-from_Contains, Contains-first, Contains-flat_map, Contains-later}
 use Rattle.tl_base.proofs.Zips.{AllZip-push, AllZip-append}
 use Rattle.tl_problem.specs.declared.cell.Cell.{Cell}
@@ -191,16 +192,16 @@ module _ (document : Document) (budget : ℕ) (style : Style) (sections : List S
 
       same_room : cell_width problem widths made ≡ w
       same_room =
-          ap (λ s. room (gap_of s) widths made.left made.right) of.made.drawn
+          ap (λ (s : Spacing). room s.gap widths made.left made.right) of.made.spaced
           ∙ ap (λ l. room (gap_of style) widths l made.right) is_made.left
           ∙ ap (λ r. room (gap_of style) widths (out-TableCell cell).place.left r) is_made.right
 
       upto : w ≤ section.width
       upto = omega (
         arith,
-        room-total (gap_of style) (edge_of style) widths (out-TableCell cell).place.left
+        room-total (gap_of style) (edges_of style) widths (out-TableCell cell).place.left
             (out-TableCell cell).place.right some inside,
-        ap (λ s. total (gap_of s) (edge_of s) widths) of.made.drawn,
+        ap (λ (s : Spacing). total s.gap s.edges widths) of.made.spaced,
         page.page,
         of.made.wide,
       )
@@ -233,7 +234,7 @@ module _ (document : Document) (budget : ℕ) (style : Style) (sections : List S
       page = omega (
         arith,
         ap (λ (ws : List ℕ). sum ws) same,
-        sum-total (gap_of problem.style) (edge_of problem.style) widths,
+        sum-total problem.spacing.gap problem.spacing.edges widths,
         page.page,
         of.made.wide,
         narrow,

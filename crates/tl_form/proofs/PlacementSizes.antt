@@ -6,7 +6,7 @@ use Rattle.std.proofs.lemmas.List.Elements.{recursion_from_All, All-from_recursi
 use Rattle.std.proofs.lemmas.List.FromFn.{get_or-range_with_len, length-range_with_len}
 use Rattle.std.proofs.lemmas.List.Sums.{sum_by-cons}
 use Rattle.tl_base.specs.declared.style.Style.{Style}
-use Rattle.tl_base.specs.Style.{row_gap_of, edge_of}
+use Rattle.tl_base.specs.Style.{row_gap_of, edges_of}
 use Rattle.tl_base.specs.Steps.{AreSteps, first_height, first_width}
 use Rattle.tl_base.proofs.Zips.{AllZip-length}
 use Rattle.tl_grid.specs.declared.shape.Place.{Place}
@@ -25,7 +25,7 @@ use Rattle.tl_form.specs.declared.heights.InnerSteps.{InnerSteps}
 use Rattle.tl_form.specs.Problems.{InnerNeeds, IsCellBy, IsProblemOf}
 use Rattle.tl_table.specs.Sound.{IsSoundBy, IsSoundWithin, IsSpeltBlock, place_of, table_size}
 use Rattle.tl_form.specs.SoundProblems.{AreSoundPremises}
-use Rattle.tl_form.proofs.LowPlacements.{length-rows, row_heights, row_weight, rows-enough, rows-total, weight-le}
+use Rattle.tl_form.proofs.LowPlacements.{IsLight, style-light, length-rows, row_heights, row_weight, rows-enough, rows-total, weight-le}
 use Rattle.tl_form.proofs.NeedSteps.{first-least, height-falls, height-first}
 use Rattle.tl_form.proofs.SafeProblems.{any-made, cells-small, have, placed-cells, places-same}
 use Rattle.tl_table.proofs.SizesOpen.{table_size-out}
@@ -74,7 +74,7 @@ module _ (problem : ProblemModel) (placed : Placed) (placement : IsPlacement pro
         let least = first-least one.high at.0 w low.0 low.1 in
         let fall = height-falls one.high at.0 (first_width one.high) w (first_height one.high) low.0 least
         (height-first one.high at.0) low.1 in
-        let enough = rows-enough (row_gap_of problem.style) problem.cells problem.rows k d within at.1 at.2 in
+        let enough = rows-enough problem.spacing.row_gap problem.cells problem.rows k d within at.1 at.2 in
         IsLowAt-higher one.high low.0 (cell_height problem (row_heights problem.cells problem.rows) one) w
         (omega (arith, fall, enough))
         (IsLowAt-from one.high low.0 w low.1);
@@ -83,13 +83,13 @@ module _ (problem : ProblemModel) (placed : Placed) (placement : IsPlacement pro
   total-low : total_height problem placed.heights ≤ total_height problem (row_heights problem.cells problem.rows)
   total-low =
       let long : length placed.heights ≡ problem.rows = placement.rows.kind.rows in
-      total-le (row_gap_of problem.style) (edge_of problem.style) placed.heights (row_heights problem.cells problem.rows)
+      total-le problem.spacing.row_gap problem.spacing.lines placed.heights (row_heights problem.cells problem.rows)
       (long ∙ sym (length-rows problem.cells problem.rows))
       (placement.rows.earliest (row_heights problem.cells problem.rows) give (length placed.heights) (omega arith))
 
-  pub height-low : AllByRecursion (λ row. 1 ≤ row_weight problem.cells row) (range_with_len 0 problem.rows) →
+  pub height-low : IsLight problem.spacing → AllByRecursion (λ row. 1 ≤ row_weight problem.cells row) (range_with_len 0 problem.rows) →
       (some : ℕ) → sum_by (λ one. first_height one.high) problem.cells + 2 * length problem.cells ≤ some → placed.height ≤ some
-  height-low rows some small =
+  height-low light rows some small =
       by-rows problem.rows refl problem.cells refl
     where
       whole : placed.height ≤ total_height problem (row_heights problem.cells problem.rows)
@@ -107,7 +107,7 @@ module _ (problem : ProblemModel) (placed : Placed) (placement : IsPlacement pro
           absurd (omega (arith, first.0, no-weight 0))
       by-rows (suc n) more (one ∷ made) is =
           let count = ap length is in
-          omega (arith, whole, rows-total problem.style problem.cells problem.rows rows, sum-heights problem.cells, small, count)
+          omega (arith, whole, rows-total problem.spacing light problem.cells problem.rows rows, sum-heights problem.cells, small, count)
 
 module _ (table : Table) (style : Style) (page : ℕ) (inner : List InnerSteps) (problem : ProblemModel) (placed : Placed)
     (given : AreSoundPremises table style page inner) (of : IsProblemOf table style page inner problem)
@@ -120,6 +120,7 @@ module _ (table : Table) (style : Style) (page : ℕ) (inner : List InnerSteps) 
       (in-rows (InnerNeeds (λ one. one.low) inner) (InnerNeeds (λ one. one.high) inner) page (out-Table table).cols
       (out-Table table).rows
       (out-Table table).cells problem.cells of.made (placed-cells table style page inner given by))))
+      (subst IsLight (sym of.spaced) (style-light style))
       (recursion_from_All (λ row. 1 ≤ row_weight problem.cells row) (range_with_len 0 problem.rows) (λ k d within.
       let long : k < problem.rows = omega (arith, within, length-range_with_len 0 problem.rows) in
       let at : get_or (range_with_len 0 problem.rows) k d ≡ k = omega (arith, get_or-range_with_len 0 problem.rows k d long) in

@@ -1,4 +1,5 @@
 -- What a sound problem of a table tells of its cells, and what its cells tell of it.
+use Rattle.tl_base.specs.Style.{spacing_of}
 use Rattle.std.proofs.Common.{◌≡◌, ℕ, ◌+◌, ◌<◌, ◌≤◌, List, [], ◌∷◌, ◌++◌, length, take, get_or, Option, Some, None, sum_by, refl}
 use Rattle.std.proofs.Common.{sym, ap, subst, ◌∙◌, arith}
 use Rattle.std.specs.List.{AllZip, AllByRecursion}
@@ -130,18 +131,18 @@ pub made-problem : (table : Table) (style : Style) (page : ℕ) (inner : List In
     AllZip (λ cell one. IsCellBy (NeedsBy Low inner) (NeedsBy High inner) page (out-TableCell cell) one)
     (out-Table table).cells made →
     IsProblemOf table style page inner
-    (record { cols = (out-Table table).cols; rows = (out-Table table).rows; style = style; width = page; cells = made })
-made-problem table style page inner made of = record { columns = refl; lines = refl; drawn = refl; wide = refl; made = of }
+    (record { cols = (out-Table table).cols; rows = (out-Table table).rows; spacing = spacing_of style; width = page; cells = made })
+made-problem table style page inner made of = record { columns = refl; lines = refl; spaced = refl; wide = refl; made = of }
 
 pub made-sound : (table : Table) (style : Style) (page : ℕ) (inner : List InnerSteps) (made : List Cell) →
     AllZip (λ cell one. IsCellBy (NeedsBy Low inner) (NeedsBy High inner) page (out-TableCell cell) one)
     (out-Table table).cells made →
     HasSoundProblem table style page inner →
-    IsSound (record { cols = (out-Table table).cols; rows = (out-Table table).rows; style = style; width = page; cells = made })
+    IsSound (record { cols = (out-Table table).cols; rows = (out-Table table).rows; spacing = spacing_of style; width = page; cells = made })
 made-sound table style page inner made of (problem, is, sound) =
     subst IsSound
     (same-problem (InnerNeeds (λ one. one.low) inner) (InnerNeeds (λ one. one.high) inner) style page (out-Table table) problem
-    (record { cols = (out-Table table).cols; rows = (out-Table table).rows; style = style; width = page; cells = made }) is
+    (record { cols = (out-Table table).cols; rows = (out-Table table).rows; spacing = spacing_of style; width = page; cells = made }) is
     (made-problem table style page inner made of)) sound
 
 -- ---- loops over the blocks of a cell and the cells of a table

@@ -4,7 +4,7 @@
 --   at 4   |a   |     at 5   |a    |
 --          |b   |            |b c  |
 --          |c   |
-use Rattle.std.proofs.Common.{◌≡◌, ℕ, ◌≤◌, List, [], ◌∷◌, Some, None, IsSomeAnd, refl, sym, subst, arith}
+use Rattle.std.proofs.Common.{◌≡◌, ℕ, ◌≤◌, false, List, [], ◌∷◌, Some, None, IsSomeAnd, refl, sym, subst, arith}
 use Rattle.std.specs.List.{AllZip}
 use Rattle.std.specs.declared.alloc.Global.{Global}
 use Rattle.std.specs.declared.boxed.Box.{Box}
@@ -74,6 +74,7 @@ module _ (paragraph : List Atom) (box : Box Table Global) (is : (out-Table box.v
   abbrev cell : ℕ → OpenCell
   cell floor = record {
     kind = kinds.Plain;
+    in_head = false;
     place = record { left = 0; right = 1; top = 0; bottom = 1 };
     least = floor;
     blocks =

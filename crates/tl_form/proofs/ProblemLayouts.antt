@@ -1,11 +1,12 @@
 -- Layouts of a table and of its problem: a layout that fits is one by bounds below, and one by bounds above is one that
 -- fits.
+use Rattle.tl_base.specs.declared.spacing.Spacing.{Spacing}
 use Rattle.std.proofs.Common.{◌≡◌, ℕ, ◌<◌, ◌≤◌, List, [], ◌∷◌, length, Some, sum, sum_by, refl, sym, ap, subst, ◌∙◌, arith}
 use Rattle.std.specs.List.{All, AllZip, AllByRecursion, flat_map}
 use Rattle.std.proofs.lemmas.List.Elements.{recursion_from_All, All-from_recursion}
 use Rattle.std.proofs.lemmas.List.Sums.{sum_by-cons}
 use Rattle.tl_base.specs.declared.style.Style.{Style}
-use Rattle.tl_base.specs.Style.{gap_of, row_gap_of, edge_of}
+use Rattle.tl_base.specs.Style.{gap_of, row_gap_of, edges_of}
 use Rattle.tl_base.specs.Steps.{AreSteps, IsLowAt, first_width, height_at}
 use Rattle.tl_base.proofs.Sums.{sum-cons}
 use Rattle.tl_base.proofs.Members.{AllByRecursion-weaker}
@@ -144,7 +145,7 @@ module _ (lows highs : Table → ℕ → ℕ → Type 0) (style : Style) (page :
   cells-low : (fits : Table → ℕ → ℕ → Layout → Type 0) (layout : OpenLayout) (cells : List TableCell) (made : List Cell)
       (parts : List (List Layout)) →
       AllZip CellOf cells made → AllByRecursion (λ one. (one.left < one.right) × (one.right ≤ length layout.widths)) made →
-      total (gap_of style) (edge_of style) layout.widths ≤ page →
+      total (gap_of style) (edges_of style) layout.widths ≤ page →
       AllByRecursion (λ cell. AllByRecursion (λ nested. (w : ℕ) → w ≤ page →
       IsBelowAt fits lows w nested) (tables_in (out-TableCell cell))) cells →
       AllZip (λ cell inner. FitsCell fits style layout (out-TableCell cell) inner) cells parts →
@@ -167,7 +168,7 @@ module _ (lows highs : Table → ℕ → ℕ → Type 0) (style : Style) (page :
       omega (
         arith,
         same,
-        room-total (gap_of style) (edge_of style) layout.widths one.left one.right placed.0.0 placed.0.1,
+        room-total (gap_of style) (edges_of style) layout.widths one.left one.right placed.0.0 placed.0.1,
         narrow,
       ) in
       let need = cell-below fits lows w open_cell h inner
@@ -222,10 +223,10 @@ module _ (lows highs : Table → ℕ → ℕ → Type 0) (style : Style) (page :
     record {
       page = record {
         columns = held.columns ∙ sym of.columns;
-        page = subst (λ s. total (gap_of s) (edge_of s) layout.widths ≤ problem.width) (sym of.drawn)
-            (subst (λ w. total (gap_of style) (edge_of style) layout.widths ≤ w) (sym of.wide) held.within);
-        cells = subst (λ s. All (λ one. first_width one.low ≤ room (gap_of s) layout.widths one.left one.right) problem.cells)
-            (sym of.drawn)
+        page = subst (λ (s : Spacing). total s.gap s.edges layout.widths ≤ problem.width) (sym of.spaced)
+            (subst (λ w. total (gap_of style) (edges_of style) layout.widths ≤ w) (sym of.wide) held.within);
+        cells = subst (λ (s : Spacing). All (λ one. first_width one.low ≤ room s.gap layout.widths one.left one.right) problem.cells)
+            (sym of.spaced)
             (All-from_recursion (λ one. first_width one.low ≤ room (gap_of style) layout.widths one.left one.right) problem.cells
             (AllByRecursion-weaker (λ one. AreSteps one.low × HasRoom layout.widths layout.heights one)
             (λ one. first_width one.low ≤ room (gap_of style) layout.widths one.left one.right) problem.cells
@@ -234,8 +235,8 @@ module _ (lows highs : Table → ℕ → ℕ → Type 0) (style : Style) (page :
       };
       enough = record {
         rows = held.rows ∙ sym of.lines;
-        cells = subst (λ s. All (λ one. IsLowAt one.low (room (row_gap_of s) layout.heights one.top one.bottom)
-            (room (gap_of s) layout.widths one.left one.right)) problem.cells) (sym of.drawn)
+        cells = subst (λ (s : Spacing). All (λ one. IsLowAt one.low (room s.row_gap layout.heights one.top one.bottom)
+            (room s.gap layout.widths one.left one.right)) problem.cells) (sym of.spaced)
             (All-from_recursion (λ one. IsLowAt one.low (room (row_gap_of style) layout.heights one.top one.bottom)
             (room (gap_of style) layout.widths one.left one.right)) problem.cells
             (AllByRecursion-weaker (HasRoom layout.widths layout.heights)
@@ -247,7 +248,7 @@ module _ (lows highs : Table → ℕ → ℕ → Type 0) (style : Style) (page :
             (IsLowAt-from one.low has.0 (room (gap_of style) layout.widths one.left one.right) has.1)) rooms));
       };
     },
-    subst (λ s. total (row_gap_of s) (edge_of s) layout.heights ≡ height) (sym of.drawn) held.high,
+    subst (λ (s : Spacing). total s.row_gap s.lines layout.heights ≡ height) (sym of.spaced) held.high,
   ) where
     rooms : AllByRecursion (HasRoom layout.widths layout.heights) problem.cells
     rooms = cells-low fits layout table.cells problem.cells held.parts of.made
@@ -317,27 +318,27 @@ module _ (lows highs : Table → ℕ → ℕ → Type 0) (style : Style) (page :
     record {
       columns = laid.page.columns ∙ of.columns;
       rows = laid.enough.rows ∙ of.lines;
-      within = subst (λ s. total (gap_of style) (edge_of style) widths ≤ total (gap_of s) (edge_of s) widths) (sym of.drawn)
+      within = subst (λ (s : Spacing). total (gap_of style) (edges_of style) widths ≤ total s.gap s.edges widths) (sym of.spaced)
           (omega arith);
-      high = subst (λ s. total (row_gap_of style) (edge_of style) heights ≡ total (row_gap_of s) (edge_of s) heights)
-          (sym of.drawn) refl;
+      high = subst (λ (s : Spacing). total (row_gap_of style) (edges_of style) heights ≡ total s.row_gap s.lines heights)
+          (sym of.spaced) refl;
       parts = found.0;
       cells = found.1;
       given = refl;
     },
   ) where
-    narrow : total (gap_of style) (edge_of style) widths ≤ page
-    narrow = subst (λ w. total (gap_of style) (edge_of style) widths ≤ w) of.wide
-        (subst (λ s. total (gap_of s) (edge_of s) widths ≤ problem.width) of.drawn laid.page.page)
+    narrow : total (gap_of style) (edges_of style) widths ≤ page
+    narrow = subst (λ w. total (gap_of style) (edges_of style) widths ≤ w) of.wide
+        (subst (λ (s : Spacing). total s.gap s.edges widths ≤ problem.width) of.spaced laid.page.page)
 
     low : AllByRecursion (λ one. IsLowAt one.high (room (row_gap_of style) heights one.top one.bottom)
         (room (gap_of style) widths one.left one.right))
         problem.cells
     low = recursion_from_All (λ one. IsLowAt one.high (room (row_gap_of style) heights one.top one.bottom)
         (room (gap_of style) widths one.left one.right)) problem.cells
-        (subst (λ s. All (λ one. IsLowAt one.high (room (row_gap_of s) heights one.top one.bottom)
-        (room (gap_of s) widths one.left one.right))
-        problem.cells) of.drawn laid.enough.cells)
+        (subst (λ (s : Spacing). All (λ one. IsLowAt one.high (room s.row_gap heights one.top one.bottom)
+        (room s.gap widths one.left one.right))
+        problem.cells) of.spaced laid.enough.cells)
 
     enough : AllByRecursion (IsEnough widths heights) problem.cells
     enough =
@@ -347,7 +348,7 @@ module _ (lows highs : Table → ℕ → ℕ → Type 0) (style : Style) (page :
         (λ one both. (
           omega (
             arith,
-            room-total (gap_of style) (edge_of style) widths one.left one.right both.0.0 both.0.1,
+            room-total (gap_of style) (edges_of style) widths one.left one.right both.0.0 both.0.1,
             narrow,
           ),
           both.1,

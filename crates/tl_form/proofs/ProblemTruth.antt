@@ -63,10 +63,10 @@ module _ (lows highs : Table → ℕ → ℕ → Type 0) (style : Style) (page :
   same-problem table one other first second =
       let cols : one.cols ≡ other.cols = first.columns ∙ sym second.columns in
       let rows : one.rows ≡ other.rows = first.lines ∙ sym second.lines in
-      let drawn : one.style ≡ other.style = first.drawn ∙ sym second.drawn in
+      let spacing : one.spacing ≡ other.spacing = first.spaced ∙ sym second.spaced in
       let width : one.width ≡ other.width = first.wide ∙ sym second.wide in
       let cells : one.cells ≡ other.cells = same-cells table.cells one.cells other.cells first.made second.made in
-      λ i. record { cols = cols i; rows = rows i; style = drawn i; width = width i; cells = cells i }
+      λ i. record { cols = cols i; rows = rows i; spacing = spacing i; width = width i; cells = cells i }
 
 -- ---- a layout of the table by bounds below, and one of the problem by bounds above
 
@@ -310,7 +310,7 @@ module _ (lows highs : Table → ℕ → ℕ → Type 0) (one_low : IsFunctional
   real-problem table problem of meet = record {
     columns = of.columns;
     lines = of.lines;
-    drawn = of.drawn;
+    spaced = of.spaced;
     wide = of.wide;
     made = real-cells (out-Table table).cells problem.cells of.made
         (each_joined Meet (λ cell. tables_in (out-TableCell cell)) (out-Table table).cells meet);

@@ -1,4 +1,5 @@
 -- The problem of a sound table that fits the page is sound, where the steps of its nested tables are.
+use Rattle.tl_base.specs.Style.{spacing_of}
 use Rattle.std.proofs.Common.{◌≡◌, ℕ, zero, suc, ◌+◌, ◌*◌, ◌<◌, ◌≤◌, max, List, [], ◌∷◌, length, get_or, map, sum_by, refl, sym}
 use Rattle.std.proofs.Common.{ap, subst, ◌∙◌, arith}
 use Rattle.std.specs.List.{All, AllPairs, AllZip, AllByRecursion, Any}
@@ -6,7 +7,7 @@ use Rattle.std.proofs.lemmas.List.{get_or-map, get_or_default, length-map}
 use Rattle.std.proofs.lemmas.List.Elements.{recursion_from_All, All-from_recursion}
 use Rattle.std.proofs.lemmas.List.Sums.{sum_by-cons}
 use Rattle.tl_base.specs.declared.style.Style.{Style}
-use Rattle.tl_base.specs.Style.{gap_of, row_gap_of, edge_of}
+use Rattle.tl_base.specs.Style.{gap_of, row_gap_of, edges_of}
 use Rattle.tl_base.specs.Steps.{first_height, first_width}
 use Rattle.tl_base.proofs.Members.{AllByRecursion-weaker}
 use Rattle.tl_grid.specs.declared.shape.Place.{Place}
@@ -16,7 +17,7 @@ use Rattle.tl_problem.specs.declared.cell.Cell.{Cell}
 use Rattle.tl_base.specs.Sizes.{room, total}
 use Rattle.tl_problem.specs.Problem.{ProblemModel}
 use Rattle.tl_problem.specs.Sound.{IsSoundCell, ShareSlot}
-use Rattle.tl_base.proofs.SizeLaws.{room-total}
+use Rattle.tl_base.proofs.SizeLaws.{spacing-sound, room-total}
 use Rattle.tl_table.specs.declared.cell.Content.{out-Content}
 use Rattle.tl_table.specs.declared.cell.Table.{Table, out-Table}
 use Rattle.tl_table.specs.declared.cell.TableCell.{TableCell, out-TableCell}
@@ -169,7 +170,7 @@ module _ (inner : List InnerSteps) (style : Style) (page : ℕ) where
       (widths heights : List ℕ) (cells : List TableCell) (parts : List (List Layout)) →
       AllByRecursion (λ cell. AllByRecursion (HasSound inner style page) (tables_in (out-TableCell cell))) cells →
       AllByRecursion (λ cell. ((place_of cell).left < (place_of cell).right) × ((place_of cell).right ≤ length widths)) cells →
-      total (gap_of style) (edge_of style) widths ≤ page →
+      total (gap_of style) (edges_of style) widths ≤ page →
       AllZip (λ cell part. FitsRoom fits (room (gap_of style) widths (place_of cell).left (place_of cell).right)
       (room (row_gap_of style) heights (place_of cell).top (place_of cell).bottom) (out-TableCell cell) part) cells parts →
       AllByRecursion (λ cell. (w k : ℕ) × (w ≡ room (gap_of style) widths (place_of cell).left (place_of cell).right) × (w ≤ page)
@@ -186,7 +187,7 @@ module _ (inner : List InnerSteps) (style : Style) (page : ℕ) where
           refl,
           omega (
             arith,
-            room-total (gap_of style) (edge_of style) widths (place_of cell).left
+            room-total (gap_of style) (edges_of style) widths (place_of cell).left
                 (place_of cell).right placed.0.0 placed.0.1,
             narrow,
           ),
@@ -245,8 +246,9 @@ module _ (table : Table) (style : Style) (page : ℕ) (inner : List InnerSteps)
       HasSoundProblem table style page inner
   by-layout {sound} by height depth layout held = (
     problem,
-    record { columns = refl; lines = refl; drawn = refl; wide = refl; made = made.1 },
+    record { columns = refl; lines = refl; spaced = refl; wide = refl; made = made.1 },
     record {
+      spaced = spacing-sound style;
       few_columns = by.few_columns;
       few_rows = by.few_rows;
       narrow = given.narrow;
@@ -291,7 +293,7 @@ module _ (table : Table) (style : Style) (page : ℕ) (inner : List InnerSteps)
         (cells-page inner style page widths (out-Table table).cells have fit)
 
     problem : ProblemModel
-    problem = record { cols = (out-Table table).cols; rows = (out-Table table).rows; style = style; width = page; cells = made.0 }
+    problem = record { cols = (out-Table table).cols; rows = (out-Table table).rows; spacing = spacing_of style; width = page; cells = made.0 }
 
     sound-made : AllByRecursion (IsSoundCell problem) made.0
     sound-made = sound-cells inner style page problem (out-Table table).cells made.0 made.1 have (placed-cells by)

@@ -74,7 +74,7 @@ module _ (lows highs : Table → ℕ → ℕ → Type 0) (low : AreShared lows) 
   problem_same style page a b problem is one = record {
     columns = one.columns ∙ is.cols;
     lines = one.lines ∙ is.rows;
-    drawn = one.drawn;
+    spaced = one.spaced;
     wide = one.wide;
     made = zip_over (λ c d. AreSameCell AreSame (out-TableCell c) (out-TableCell d))
         (λ c made. IsCellBy lows highs page (out-TableCell c) made)

@@ -1,6 +1,7 @@
 -- What good sections prove: no layout of the table on the section's page is below its lower bound, and one has its height
 -- in the columns of its placement. By induction on the number of the section: those before it tell the truth of the tables
 -- nested in its own.
+use Rattle.tl_base.specs.declared.spacing.Spacing.{Spacing}
 use Rattle.std.proofs.Common.{◌≡◌, ◌∙◌, ℕ, zero, suc, ◌+◌, ◌≤◌, Bool, true, if◌then◌else◌, cond, nat_le, filter, option_map, List}
 use Rattle.std.proofs.Common.{[], ◌∷◌, ◌⊎◌, inl}
 use Rattle.std.proofs.Common.{inr, length, get_or, take, None, Some, refl, sym, ap, subst, arith}
@@ -13,7 +14,7 @@ use Rattle.tl_base.specs.declared.steps.Config.{Config}
 use Rattle.tl_base.specs.Steps.{AreSteps, first_width, height_at}
 use Rattle.tl_base.proofs.Decreasing.{test_le}
 use Rattle.tl_base.proofs.Members.{Contains-cases, Contains-none, All-from_Contains}
-use Rattle.tl_base.specs.Style.{gap_of, edge_of}
+use Rattle.tl_base.specs.Style.{gap_of, edges_of}
 use Rattle.tl_base.specs.Sizes.{total}
 use Rattle.tl_problem.specs.Problem.{total_width, total_height}
 use Rattle.tl_cert.specs.declared.section.Section.{Section}
@@ -263,8 +264,8 @@ module _ (below : LayoutsAreByLow) (above : LayoutsByHighFit) (document : Docume
     placed_as : (section : Section) (good : IsGood document budget before section) →
         total_width good.problem good.laid.placed.widths ≡ placed_width document.style section
     placed_as section good =
-        ap (λ style. total (gap_of style) (edge_of style) good.laid.placed.widths) good.laid.own.made.drawn
-        ∙ ap (total (gap_of document.style) (edge_of document.style)) good.laid.placement.wide
+        ap (λ (s : Spacing). total s.gap s.edges good.laid.placed.widths) good.laid.own.made.spaced
+        ∙ ap (total (gap_of document.style) (edges_of document.style)) good.laid.placement.wide
 
   pub all_true : (sections : List Section) (n : ℕ) → n ≤ length sections → AreGoodBelow document budget sections n →
       All (IsTrue document) (take n sections)

@@ -4,7 +4,7 @@
 use Rattle.std.specs.Prelude.{◌≡◌, ℕ, zero, suc, ◌+◌, ◌-◌, ◌<◌, ◌==◌, nat_le, if◌then◌else◌, List, [], ◌∷◌, length, get_or, take}
 use Rattle.std.specs.Prelude.{Option, None, Some}
 use Rattle.tl_base.specs.declared.style.Style.{Style}
-use Rattle.tl_base.specs.Style.{gap_of, edge_of}
+use Rattle.tl_base.specs.Style.{gap_of, edges_of}
 use Rattle.tl_base.specs.Sizes.{total}
 use Rattle.tl_cert.specs.declared.section.Section.{Section}
 use Rattle.tl_table.specs.declared.cell.Table.{Table, out-Table}
@@ -74,7 +74,7 @@ next_due document number placed = if number == own_number document then None
 
 -- how many columns the placement of a section takes
 abbrev pub placed_width : Style → Section → ℕ
-placed_width style section = total (gap_of style) (edge_of style) section.widths
+placed_width style section = total (gap_of style) (edges_of style) section.widths
 
 -- what is due once these sections follow
 abbrev pub due_from : Document → Option Due → List Section → Option Due

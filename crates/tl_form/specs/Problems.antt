@@ -1,6 +1,7 @@
 -- The problem of a table: what a search sees of it. Each cell needs at a width as many lines as its blocks need there, one
 -- under the other; it begins at its floor, or where each of its blocks has a height. What a nested table needs is given
 -- from outside: as a lower bound and an upper one of each, or as it is, which gives the true problem.
+use Rattle.tl_base.specs.Style.{spacing_of}
 use Rattle.std.specs.Prelude.{◌≡◌, ℕ, ◌≤◌, ◌↔◌, ◌==◌, if◌then◌else◌, List, [], ◌∷◌, Option, None, Some, IsSomeAnd, sum}
 use Rattle.std.specs.List.{All, AllZip}
 use Rattle.tl_base.specs.declared.style.Style.{Style}
@@ -60,7 +61,7 @@ pub record IsProblemBy (lows highs : Table → ℕ → ℕ → Type 0) (style : 
     (problem : ProblemModel) : Type 0 where
   pub columns : problem.cols ≡ table.cols
   pub lines : problem.rows ≡ table.rows
-  pub drawn : problem.style ≡ style
+  pub spaced : problem.spacing ≡ spacing_of style
   pub wide : problem.width ≡ page
   pub made : AllZip (λ cell made. IsCellBy lows highs page (out-TableCell cell) made) table.cells problem.cells
 

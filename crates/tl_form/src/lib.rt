@@ -1,7 +1,7 @@
 //! The problem of a table, and when a certificate of a document is valid: which sections are due, what
-//! those of nested tables tell, and which layout a certificate names. It searches nothing, and gives the
-//! calls of `tl_table` on under its own name. Its one contract: `problem` is the problem of the table with
-//! given steps for its nested tables, and what a valid certificate claims holds of every layout.
+//! those of nested tables tell, and which layout a certificate names. It searches nothing. Its one
+//! contract: `problem` is the problem of the table with given steps for its nested tables, and what a valid
+//! certificate claims holds of every layout.
 #![tactic(auto)]
 
 mod cell_steps;
@@ -35,12 +35,6 @@ pub use problem_laws::{
 };
 pub use problems::{has_sound_problem, problem, sound_problem};
 pub use subject::{Due, Subject};
-pub use tl_table::{
-    Content, FormError, Kind, Layout, Table, TableCell, by_number, each_number_is_of_one_table,
-    file_spells_one_table, formed_has_few_cells, least_width, narrow_chain, nested,
-    no_page_is_narrower_than_a_chain, own_width, same_tables_nest_as_many,
-    same_tables_share_least_widths, table, the_first_without_a_grid_has_the_least_number,
-};
 pub use valid_laws::{
     bounded_is_between, lowest_is_least, named_layout_fits, narrow_is_too_wide,
     refused_for_one_reason, same_tables_share_certificates, valid_is_not_refused,

@@ -33,7 +33,7 @@ fn placed_width(style: Style, section: &Section) -> u64
     requires { length section.now.widths ≤ MAX_COLUMNS }
     ensures { result ≡ placed_width style section.now }
 {
-    total_size(style.gap(), style.edge(), section.widths.as_slice())
+    total_size(style.gap(), style.edges(), section.widths.as_slice())
 }
 
 /// Whether the section is one of the table with this number, and its placement takes at most `room`

@@ -47,7 +47,7 @@ fn placed_width(section: &Section, style: Style) -> u64
         return 0;
     }
     let gaps = u64::from(style.gap()).saturating_mul(widths.len() as u64 - 1);
-    let mut width = gaps.saturating_add(2 * u64::from(style.edge()));
+    let mut width = gaps.saturating_add(u64::from(style.edges()));
     for &each in widths {
         width = width.saturating_add(u64::from(each));
     }

@@ -109,10 +109,11 @@ pub fn sound_problem(
     let Some(cells) = problem_cells(alloc, table, width, inner)? else {
         return Ok(None);
     };
-    if !Problem::is_sound(table.cols, table.rows, style, width, cells.as_slice()) {
+    let spacing = style.spacing();
+    if !Problem::is_sound(table.cols, table.rows, spacing, width, cells.as_slice()) {
         return Ok(None);
     }
-    let problem = Problem::new(alloc, table.cols, table.rows, style, width, cells)?;
+    let problem = Problem::new(alloc, table.cols, table.rows, spacing, width, cells)?;
     Ok(Some(problem))
 }
 

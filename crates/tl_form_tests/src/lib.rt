@@ -3,6 +3,8 @@
 #![tactic(auto)]
 
 #[cfg(test)]
+mod head_tests;
+#[cfg(test)]
 mod nested_tests;
 #[cfg(test)]
 mod problem_tests;

@@ -15,7 +15,8 @@ ghost use Rattle.tl_narrow.specs.Certified.{certificate_of, claim_of};
 use std::alloc::{AllocError, Global};
 use tl_base::{List, Style};
 use tl_cert::{Certificate, Claim, Section};
-use tl_form::{Subject, chains_are_writable, narrow_chain};
+use tl_form::{Subject, chains_are_writable};
+use tl_table::narrow_chain;
 
 /// What the last section claims of the page.
 fn claim_of(sections: &[Section]) -> Claim

@@ -1,11 +1,12 @@
 -- Sections that were found on all of them, put in the order of a certificate: each is good on those before it.
+use Rattle.tl_base.specs.declared.spacing.Spacing.{Spacing}
 use Rattle.std.proofs.Common.{◌≡◌, ◌∙◌, ℕ, zero, suc, ◌+◌, ◌-◌, ◌<◌, ◌≤◌, List, [], ◌∷◌, inl, inr, length, get_or}
 use Rattle.std.proofs.Common.{take}
 use Rattle.std.proofs.Common.{Some, Contains, refl, sym, ap, subst, arith}
 use Rattle.std.specs.List.{All}
 use Rattle.std.proofs.lemmas.Bool.{cases_lt}
 use Rattle.std.proofs.lemmas.List.{get_or_default, take_all}
-use Rattle.tl_base.specs.Style.{gap_of, edge_of}
+use Rattle.tl_base.specs.Style.{gap_of, edges_of}
 use Rattle.tl_base.specs.Sizes.{total}
 use Rattle.tl_base.proofs.Taken.{taken_more}
 use Rattle.tl_problem.specs.Problem.{ProblemModel}
@@ -182,10 +183,10 @@ pub found_narrow : (given : ProblemModel → Outcome → Type 0) (document : Doc
     (section : Section) → IsFoundOn given document budget told section → HasNarrowWidths document.style section
 found_narrow given document budget told section found =
     let placement = found.solved.tight.placement in
-    let wide : total (gap_of document.style) (edge_of document.style) section.widths
-    ≡ total (gap_of found.problem.style) (edge_of found.problem.style) found.outcome.best.widths =
-    ap (total (gap_of document.style) (edge_of document.style)) found.same.widths
-    ∙ ap (λ style. total (gap_of style) (edge_of style) found.outcome.best.widths) (sym found.own.made.drawn) in record {
+    let wide : total (gap_of document.style) (edges_of document.style) section.widths
+    ≡ total found.problem.spacing.gap found.problem.spacing.edges found.outcome.best.widths =
+    ap (total (gap_of document.style) (edges_of document.style)) found.same.widths
+    ∙ ap (λ (s : Spacing). total s.gap s.edges found.outcome.best.widths) (sym found.own.made.spaced) in record {
       few = omega (arith, ap length found.same.widths, placement.page.columns, found.own.sound.few_columns);
       narrow = omega (arith, wide, placement.page.page, found.own.sound.narrow);
     }

@@ -1,4 +1,5 @@
 -- A section that is due, made of an outcome for its problem, and one more section of a list.
+use Rattle.tl_base.specs.declared.spacing.Spacing.{Spacing}
 use Rattle.std.proofs.Common.{◌≡◌, ◌∙◌, ℕ, ◌+◌, ◌-◌, ◌*◌, ◌<◌, ◌≤◌, List, [], ◌∷◌, ◌++◌, inl, inr, length, get_or, take, Option, None}
 use Rattle.std.proofs.Common.{Some, Result, Ok}
 use Rattle.std.proofs.Common.{refl, sym, ap, subst, arith}
@@ -11,7 +12,7 @@ use Rattle.std.proofs.lemmas.Bool.{cases_lt}
 use Rattle.std.proofs.lemmas.List.{get_or_append_left, length_push, take_all, take-append-le}
 use Rattle.tl_base.specs.declared.limits.TheConstants.{MAX_FILE_BYTES, MAX_PAGE_WIDTH}
 use Rattle.tl_base.specs.declared.style.Style.{Style}
-use Rattle.tl_base.specs.Style.{gap_of, edge_of}
+use Rattle.tl_base.specs.Style.{gap_of, edges_of}
 use Rattle.tl_problem.specs.declared.placed.Placed.{Placed}
 use Rattle.tl_problem.specs.Problem.{ProblemModel}
 use Rattle.tl_base.specs.Sizes.{total}
@@ -69,7 +70,7 @@ module _ (subject : Subject) (is : IsSubject subject) (fits : IsWideEnough subje
   pub placed_as : outcome.best.width ≡ placed_width subject.style (section_of now outcome)
   placed_as =
       solved.tight.placement.width
-      ∙ ap (λ style. total (gap_of style) (edge_of style) outcome.best.widths) at.made.drawn
+      ∙ ap (λ (s : Spacing). total s.gap s.edges outcome.best.widths) at.made.spaced
 
   pub writable : SectionsGiveSoundProblems → IsSectionWritable (section_of now outcome)
   writable law =
@@ -87,7 +88,7 @@ module _ (subject : Subject) (is : IsSubject subject) (fits : IsWideEnough subje
         some = solved.good.some;
         short = solved.short;
         columns = omega (arith, placement.page.columns, at.sound.few_columns);
-        widths = total-within (gap_of problem.style) (edge_of problem.style) MAX_PAGE_WIDTH outcome.best.widths
+        widths = total-within problem.spacing.gap problem.spacing.edges MAX_PAGE_WIDTH outcome.best.widths
             (omega (arith, placement.page.page, at.made.wide, narrow_page));
         trace = solved.trace_writable;
         log = solved.log_writable;

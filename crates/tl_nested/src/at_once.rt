@@ -135,7 +135,7 @@ fn placed_width(section: &Section, style: Style) -> u32
     requires { HasNarrowWidths style section.now }
     ensures { result ≡ placed_width style section.now }
 {
-    total_size(style.gap(), style.edge(), section.widths.as_slice()) as u32
+    total_size(style.gap(), style.edges(), section.widths.as_slice()) as u32
 }
 
 /// What is due after the sections, where each of them is the one that is due after those before it.

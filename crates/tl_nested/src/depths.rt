@@ -6,7 +6,8 @@ ghost use Rattle.tl_form.specs.Subjects.{IsSubject, meant};
 ghost use Rattle.tl_nested.specs.inner.Depths.{AreDepths, AreSizes, IsAtDepth, IsBelow};
 
 use std::alloc::{AllocError, Global};
-use tl_form::{Subject, nested};
+use tl_form::Subject;
+use tl_table::nested;
 
 /// How many tables lie inside each table of the document.
 pub fn sizes_of(alloc: Global, subject: &Subject) -> Result<Vec<u32>, AllocError>

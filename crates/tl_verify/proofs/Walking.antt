@@ -11,7 +11,7 @@ use Rattle.std.proofs.lemmas.List.Elements.{All-contains, Contains-append_cases}
 use Rattle.std.proofs.lemmas.List.Concat.{flat_map-cons}
 use Rattle.std.proofs.lemmas.List.Sums.{sum_by-cons, sum_by-append}
 use Rattle.tl_base.specs.declared.style.Style.{Style}
-use Rattle.tl_base.specs.Style.{gap_of, edge_of}
+use Rattle.tl_base.specs.Style.{gap_of, edges_of}
 use Rattle.tl_base.proofs.Members.{Contains-cases, Contains-flat_map, Contains-map, Contains-none, first-same, rest-same}
 use Rattle.std.specs.declared.alloc.Global.{Global}
 use Rattle.std.specs.declared.boxed.Box.{Box}
@@ -165,21 +165,21 @@ module _ (style : Style) where
     no_walk_row none = no_walk_by (λ links rest linked of some light. none links rest linked (omega (arith, light)))
 
     pub row_weighs : (row : Row) (is_row : IsRow style (out-Table table) first.entries chains (at + 1) most row) →
-        row.width + gap_of style * (length first.entries + ((out-Table table).cols - row.covered) - 1) + 2 * edge_of style
+        row.width + gap_of style * (length first.entries + ((out-Table table).cols - row.covered) - 1) + edges_of style
         ≡ links_weight style (out-Table table).cols is_row.links
     row_weighs row is_row =
         let many = AllZip-length (λ entry link. IsLink (Weighs style) (out-Table table) entry link)
         first.entries is_row.links is_row.linked.stand in
-        ap (λ w. w + gap_of style * (length first.entries + ((out-Table table).cols - row.covered) - 1) + 2 * edge_of style)
+        ap (λ w. w + gap_of style * (length first.entries + ((out-Table table).cols - row.covered) - 1) + edges_of style)
         is_row.wide
-        ∙ ap (λ n. link_widths is_row.links + gap_of style * (n + ((out-Table table).cols - row.covered) - 1) + 2 * edge_of style)
+        ∙ ap (λ n. link_widths is_row.links + gap_of style * (n + ((out-Table table).cols - row.covered) - 1) + edges_of style)
         many
         ∙ ap (λ n. link_widths is_row.links + gap_of style * (length is_row.links +
-        ((out-Table table).cols - n) - 1) + 2 * edge_of style) is_row.covers
+        ((out-Table table).cols - n) - 1) + edges_of style) is_row.covers
 
     pub no_walk_heavy : IsSound table → (row : Row) → IsRow style (out-Table table) first.entries chains (at + 1) most row →
         (weight : ℕ) →
-        weight ≡ row.width + gap_of style * (length first.entries + ((out-Table table).cols - row.covered) - 1) + 2 * edge_of
+        weight ≡ row.width + gap_of style * (length first.entries + ((out-Table table).cols - row.covered) - 1) + edges_of
         style →
         most < weight → HasNoWalk style table chains at most
     no_walk_heavy sound row is_row weight weighs heavy = no_walk_by (λ links rest linked of some light.
@@ -190,7 +190,7 @@ module _ (style : Style) where
 
     pub walked : (row : Row) (weight : ℕ) (walked : Walked) → first.table ≡ (out-Table table).number → 0 < length first.entries →
         (is_row : IsRow style (out-Table table) first.entries chains (at + 1) most row) →
-        weight ≡ row.width + gap_of style * (length first.entries + ((out-Table table).cols - row.covered) - 1) + 2 * edge_of
+        weight ≡ row.width + gap_of style * (length first.entries + ((out-Table table).cols - row.covered) - 1) + edges_of
         style →
         weight ≤ most → walked.weight ≡ weight → walked.past ≡ row.past → IsWalk style table chains at most walked
     walked row weight found of some is_row weighs light same past = record {

@@ -2,7 +2,7 @@
 
 ghost use Rattle.std.specs.Prelude.{◌≡◌, ◌+◌, ◌-◌, ◌*◌, ◌<◌, ◌≤◌, drop, length, IsTrue, ◌↔◌, MatchOption};
 ghost use Rattle.tl_base.specs.declared.limits.TheConstants.{MAX_COLUMNS, MAX_HEIGHT};
-ghost use Rattle.tl_base.specs.Style.{edge_of, gap_of};
+ghost use Rattle.tl_base.specs.Style.{edges_of, gap_of};
 ghost use Rattle.tl_table.specs.declared.cell.Content.{out-Content};
 ghost use Rattle.tl_table.specs.declared.cell.Table.{out-Table};
 ghost use Rattle.tl_table.specs.declared.cell.TableCell.{out-TableCell};
@@ -41,11 +41,11 @@ fn row_weight(row: Row, count: usize, cols: u32, style: Style) -> u64
     requires some { 1 ≤ count }
     requires many { count ≤ cols }
     requires light { row.width ≤ MAX_HEIGHT }
-    ensures { result ≡ row.width + gap_of style * (count + (cols - row.covered) - 1) + 2 * edge_of style }
+    ensures { result ≡ row.width + gap_of style * (count + (cols - row.covered) - 1) + edges_of style }
 {
     let bare = u64::from(cols - row.covered);
     let gaps = count as u64 + bare - 1;
-    u64::from(row.width) + u64::from(style.gap()) * gaps + 2 * u64::from(style.edge())
+    u64::from(row.width) + u64::from(style.gap()) * gaps + u64::from(style.edges())
 }
 
 /// Whether the walk came to the end of so many chains, they weigh `least`, and that is above the page.

@@ -41,7 +41,7 @@ fn placed_width(section: &Section, style: Style) -> u32
     requires narrow { AllByRecursion (λ width. width ≤ MAX_PAGE_WIDTH) section.now.widths }
     ensures { result ≡ placed_width style section.now }
 {
-    total_size(style.gap(), style.edge(), section.widths.as_slice()) as u32
+    total_size(style.gap(), style.edges(), section.widths.as_slice()) as u32
 }
 
 /// How far the sections of a certificate are in order.

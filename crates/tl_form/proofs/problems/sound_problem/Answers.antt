@@ -1,4 +1,6 @@
 -- A table that has a sound problem passes each test.
+use Rattle.tl_base.specs.declared.spacing.Spacing.{Spacing}
+use Rattle.tl_base.specs.Style.{spacing_of}
 use Rattle.std.proofs.Common.{◌≡◌, ◌∙◌, true, false, sym, subst}
 use Rattle.tl_table.specs.declared.cell.Table.{out-Table}
 use Rattle.tl_problem.specs.Sound.{IsSound}
@@ -19,12 +21,19 @@ pub returns-then-not-is_sound : goal.returns-then-not-is_sound
 returns-then-not-is_sound c = λ has.
     let table = out-Table c.args.table.now in
     passed (sym c.if-not-is_sound.true ∙ c.is_sound.ensures.1
+    (subst (λ (spacing : Spacing). IsSound (record {
+      cols = table.cols;
+      rows = table.rows;
+      spacing = spacing;
+      width = c.args.width;
+      cells = c.as_slice.result.now;
+    })) (sym c.spacing-spacing.ensures)
     (subst (λ made. IsSound (record {
       cols = table.cols;
       rows = table.rows;
-      style = c.args.style;
+      spacing = spacing_of c.args.style;
       width = c.args.width;
       cells = made;
     }))
     (sym c.as_slice.ensures)
-    (made-sound c.args.table.now c.args.style c.args.width c.args.inner.now c.in-Some.cells (rw c.in-Some.is at c.in_ok-cells.ensures) has)))
+    (made-sound c.args.table.now c.args.style c.args.width c.args.inner.now c.in-Some.cells (rw c.in-Some.is at c.in_ok-cells.ensures) has))))

@@ -3,7 +3,7 @@ use Rattle.std.proofs.Common.{subst, rules, arith}
 use Rattle.std.specs.List.{flat_map}
 use Rattle.std.proofs.lemmas.List.{get_or_default, take_all}
 use Rattle.std.proofs.lemmas.Option.{slice_get_read}
-use Rattle.tl_base.specs.Style.{gap_of, edge_of}
+use Rattle.tl_base.specs.Style.{gap_of, edges_of}
 use Rattle.tl_base.specs.declared.chain.Entry.{Entry}
 use Rattle.tl_table.specs.declared.cell.Content.{out-Content, the_lemmas}
 use Rattle.tl_table.specs.declared.cell.Content.TheVariants.{outs-Table}
@@ -76,7 +76,7 @@ walk-returns-then-weight-from t c =
     c.in_ok-row.ensures) c.row_weight-weight.result
     (c.row_weight-weight.ensures ∙ ap (λ n. row.width + gap_of c.args.style *
     (n + ((out-Table c.args.table.now).cols - row.covered) - 1)
-    + 2 * edge_of c.args.style) (ap length c.as_slice-entries.ensures)) (omega (arith, c.if-weight-from.true))
+    + edges_of c.args.style) (ap length c.as_slice-entries.ensures)) (omega (arith, c.if-weight-from.true))
 
 pub walk-returns : goal.walk-returns
 walk-returns t c =
@@ -93,7 +93,7 @@ walk-returns t c =
     c.in_ok-row.ensures)
     (c.row_weight-weight.ensures ∙ ap (λ n. row.width + gap_of c.args.style *
     (n + ((out-Table c.args.table.now).cols - row.covered) - 1)
-    + 2 * edge_of c.args.style) (ap length c.as_slice-entries.ensures)) (omega (arith, c.if-weight-from.false)) refl refl
+    + edges_of c.args.style) (ap length c.as_slice-entries.ensures)) (omega (arith, c.if-weight-from.false)) refl refl
 
 pub walk_row-loop-entry-init : goal.walk_row-loop-entry-init
 walk_row-loop-entry-init t c = row_none c.args.style c.args.table.now c.args.entries.now c.args.chains.now c.args.at c.args.most
