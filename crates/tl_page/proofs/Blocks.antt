@@ -5,8 +5,8 @@ use Rattle.std.proofs.lemmas.List.{get_or-drop, drop_more, length-drop}
 use Rattle.std.specs.declared.alloc.Global.{Global}
 use Rattle.std.specs.declared.boxed.Box.{Box}
 use Rattle.tl_base.specs.declared.style.Style.{Style}
-use Rattle.tl_base.specs.declared.style.Style.TheVariants.{Plain, Compact, Frame}
 use Rattle.tl_base.specs.Style.{row_gap_of}
+use Rattle.tl_base.proofs.SizeLaws.{spacing-sound}
 use Rattle.tl_text.specs.declared.paragraph.Atom.{Atom}
 use Rattle.tl_text.specs.Cuttings.{HasCutting}
 use Rattle.tl_table.specs.declared.cell.Content.TheOpen as open_content
@@ -21,9 +21,7 @@ use Rattle.tl_page.specs.inner.Contents.{FitsPage, FitsBlockRoom, ShowsPart, Sho
 -- ---- styles
 
 pub row_gap-small : (style : Style) → row_gap_of style ≤ 2
-row_gap-small Plain = omega arith
-row_gap-small Compact = omega arith
-row_gap-small Frame = omega arith
+row_gap-small style = omega (arith, (spacing-sound style).close)
 
 -- ---- paragraphs
 

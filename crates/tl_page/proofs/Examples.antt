@@ -11,17 +11,27 @@
 --              +--+---+       +-+-+      ||x|| |
 --                                        |+-+| |
 --                                        +---+-+
-use Rattle.std.proofs.Common.{◌≡◌, inr, ℕ, List, [], ◌∷◌, codes, map, refl, arith}
+use Rattle.std.proofs.Common.{◌≡◌, inr, ℕ, ◌+◌, false, List, [], ◌∷◌, Option, Some, None, codes, map, encode_utf8_all, refl, arith}
+use Rattle.std.specs.Char.{encode_utf8}
 use Rattle.tl_base.specs.declared.style.Style.{Style}
-use Rattle.tl_base.specs.declared.style.Style.TheVariants.{Plain, Compact, Frame}
+use Rattle.tl_base.specs.declared.style.Style.TheVariants.{Plain, Compact, Frame, Box}
+use Rattle.tl_base.specs.declared.style.Style.TheVariants as styles
 use Rattle.tl_grid.specs.declared.shape.Place.{Place}
+use Rattle.tl_table.specs.declared.cell.Kind.{Kind}
+use Rattle.tl_table.specs.declared.cell.Kind.TheVariants as kinds
+use Rattle.tl_table.specs.Tables.{OpenCell}
 use Rattle.tl_page.specs.declared.line.Line.{Line}
+use Rattle.tl_page.specs.Corners.{Grid}
+use Rattle.tl_page.specs.Pages.{head_row_of}
 use Rattle.tl_page.specs.Pictures.{Picture, picture, lines_of}
 use Rattle.tl_page.specs.Standing.{TextStandsAt}
 use Rattle.tl_page.specs.Widths.{TakesColumns}
 
 abbrev place : ℕ → ℕ → ℕ → ℕ → Place
 place left right top bottom = record { left = left; right = right; top = top; bottom = bottom }
+
+abbrev grid : ℕ → ℕ → List Place → Option ℕ → Grid
+grid cols rows places head = record { cols = cols; rows = rows; places = places; head = head }
 
 -- ---- a span of columns
 
@@ -31,26 +41,63 @@ over_both = place 0 2 0 1
 abbrev below : Place
 below = place 0 1 1 2
 
-abbrev spanned : Style → Picture
-spanned style = picture style (record { cols = 2; rows = 2; places = over_both ∷ below ∷ [] }) (2 ∷ 3 ∷ []) (1 ∷ 1 ∷ [])
+abbrev spanned : Style → Option ℕ → Picture
+spanned style head = picture style (grid 2 2 (over_both ∷ below ∷ []) head) (2 ∷ 3 ∷ []) (1 ∷ 1 ∷ [])
     ((record { text = codes "aaaa"; width = 4 } ∷ []) ∷ (record { text = codes "bb"; width = 2 } ∷ []) ∷ [])
 
-spanned_plain : lines_of (spanned Plain) ≡ codes "aaaa   " ∷ codes "bb     " ∷ []
+spanned_plain : lines_of (spanned Plain None) ≡ codes "aaaa   " ∷ codes "bb     " ∷ []
+unfolding encode_utf8
 spanned_plain = refl
 
-spanned_compact : lines_of (spanned Compact) ≡ codes "aaaa  " ∷ codes "bb    " ∷ []
+spanned_compact : lines_of (spanned Compact None) ≡ codes "aaaa  " ∷ codes "bb    " ∷ []
+unfolding encode_utf8
 spanned_compact = refl
 
-spanned_frame : lines_of (spanned Frame) ≡
+spanned_frame : lines_of (spanned Frame None) ≡
     codes "+------+"
     ∷ codes "|aaaa  |"
     ∷ codes "+--+---+"
     ∷ codes "|bb|   |"
     ∷ codes "+--+---+" ∷ []
+unfolding encode_utf8
 spanned_frame = refl
+
+-- the first row is the head, or no row is: the line under it goes through where the cell below ends
+spanned_grid : lines_of (spanned styles.Grid (Some 1)) ≡
+    codes "+------+"
+    ∷ codes "|aaaa  |"
+    ∷ codes "+==+===+"
+    ∷ codes "|bb|   |"
+    ∷ codes "+--+---+" ∷ []
+unfolding encode_utf8
+spanned_grid = refl
+
+spanned_box : lines_of (spanned Box (Some 1)) ≡ map encode_utf8_all (
+    codes "┌──────┐"
+    ∷ codes "│aaaa  │"
+    ∷ codes "╞══╤═══╡"
+    ∷ codes "│bb│   │"
+    ∷ codes "└──┴───┘" ∷ [])
+unfolding encode_utf8
+spanned_box = refl
+
+spanned_light : lines_of (spanned Box None) ≡ map encode_utf8_all (
+    codes "┌──────┐"
+    ∷ codes "│aaaa  │"
+    ∷ codes "├──┬───┤"
+    ∷ codes "│bb│   │"
+    ∷ codes "└──┴───┘" ∷ [])
+unfolding encode_utf8
+spanned_light = refl
+
+-- in style frame the head shows in nothing
+spanned_frame_head : lines_of (spanned Frame (Some 1)) ≡ lines_of (spanned Frame None)
+unfolding encode_utf8
+spanned_frame_head = refl
 
 -- the side of the frame takes one column
 side_width : TakesColumns (codes "|") 1
+unfolding encode_utf8
 side_width = record {
   pieces = record { text = codes "|"; width = 1 } ∷ [];
   each = (inr (0x7C, (1, omega arith, refl), refl), tt);
@@ -59,10 +106,12 @@ side_width = record {
 }
 
 -- the text of the first cell stands on line 1, and that of the second on line 3, each after the side
-first_stands : TextStandsAt (lines_of (spanned Frame)) 1 1 (codes "aaaa")
+first_stands : TextStandsAt (lines_of (spanned Frame None)) 1 1 (codes "aaaa")
+unfolding encode_utf8
 first_stands = record { before = codes "|"; after = codes "  |"; columns = side_width; line = refl }
 
-second_stands : TextStandsAt (lines_of (spanned Frame)) 1 3 (codes "bb")
+second_stands : TextStandsAt (lines_of (spanned Frame None)) 1 3 (codes "bb")
+unfolding encode_utf8
 second_stands = record { before = codes "|"; after = codes "|   |"; columns = side_width; line = refl }
 
 -- ---- a span of rows
@@ -80,7 +129,7 @@ abbrev one : ℕ → Line
 one letter = record { text = letter ∷ []; width = 1 }
 
 abbrev tall : Picture
-tall = picture Frame (record { cols = 2; rows = 2; places = beside ∷ upper ∷ lower ∷ [] }) (1 ∷ 1 ∷ []) (1 ∷ 1 ∷ [])
+tall = picture Frame (grid 2 2 (beside ∷ upper ∷ lower ∷ []) None) (1 ∷ 1 ∷ []) (1 ∷ 1 ∷ [])
     ((one 0x61 ∷ one 0x20 ∷ one 0x61 ∷ []) ∷ (one 0x62 ∷ []) ∷ (one 0x63 ∷ []) ∷ [])
 
 -- the content of the cell over both rows goes on through the rule between them
@@ -90,24 +139,81 @@ tall_frame : lines_of tall ≡
     ∷ codes "| +-+"
     ∷ codes "|a|c|"
     ∷ codes "+-+-+" ∷ []
+unfolding encode_utf8
 tall_frame = refl
 
+-- ---- a caption and a head
+
+abbrev cells_of_three_rows : List Place
+cells_of_three_rows = place 0 2 0 1 ∷ place 0 1 1 2 ∷ place 1 2 1 2 ∷ place 0 1 2 3 ∷ place 1 2 2 3 ∷ []
+
+abbrev captioned : Style → Option ℕ → Picture
+captioned style head = picture style (grid 2 3 cells_of_three_rows head) (1 ∷ 1 ∷ []) (1 ∷ 1 ∷ 1 ∷ [])
+    ((one 0x74 ∷ []) ∷ (one 0x61 ∷ []) ∷ (one 0x62 ∷ []) ∷ (one 0x63 ∷ []) ∷ (one 0x64 ∷ []) ∷ [])
+
+-- the line under the caption is light, and that under the head, which ends with the second row, is double
+captioned_box : lines_of (captioned Box (Some 2)) ≡ map encode_utf8_all (
+    codes "┌───┐"
+    ∷ codes "│t  │"
+    ∷ codes "├─┬─┤"
+    ∷ codes "│a│b│"
+    ∷ codes "╞═╪═╡"
+    ∷ codes "│c│d│"
+    ∷ codes "└─┴─┘" ∷ [])
+unfolding encode_utf8
+captioned_box = refl
+
+captioned_grid : lines_of (captioned styles.Grid (Some 2)) ≡
+    codes "+---+"
+    ∷ codes "|t  |"
+    ∷ codes "+-+-+"
+    ∷ codes "|a|b|"
+    ∷ codes "+=+=+"
+    ∷ codes "|c|d|"
+    ∷ codes "+-+-+" ∷ []
+unfolding encode_utf8
+captioned_grid = refl
+
+-- ---- the last row of the head
+
+abbrev cell : Kind → ℕ → OpenCell
+cell kind row = record { kind = kind; in_head = false; place = place 0 1 row (row + 1); least = 0; blocks = [] }
+
+-- a header cell, and another one below it
+head_above : head_row_of (cell kinds.Head 0 ∷ cell kinds.Plain 1 ∷ []) 2 ≡ Some 1
+head_above = refl
+
+-- a caption, a header cell, and another one below it
+head_below_caption : head_row_of (cell kinds.Caption 0 ∷ cell kinds.Head 1 ∷ cell kinds.Plain 2 ∷ []) 3 ≡ Some 2
+head_below_caption = refl
+
+-- a caption above cells without a head
+no_head : head_row_of (cell kinds.Caption 0 ∷ cell kinds.Plain 1 ∷ []) 2 ≡ None
+no_head = refl
+
+-- a caption and a header cell with nothing below it
+head_alone : head_row_of (cell kinds.Caption 0 ∷ cell kinds.Head 1 ∷ []) 2 ≡ None
+head_alone = refl
+
+-- ---- hardly any table
+
 -- a table without columns has no line
-none_frame : lines_of (picture Frame (record { cols = 0; rows = 0; places = [] }) [] [] []) ≡ []
+none_frame : lines_of (picture Frame (grid 0 0 [] None) [] [] []) ≡ []
 none_frame = refl
 
 -- a table with a column and a row without content is two lines of corners
-empty_frame : lines_of (picture Frame (record { cols = 1; rows = 1; places = place 0 1 0 1 ∷ [] }) (0 ∷ []) (0 ∷ []) ([] ∷ [])) ≡
+empty_frame : lines_of (picture Frame (grid 1 1 (place 0 1 0 1 ∷ []) None) (0 ∷ []) (0 ∷ []) ([] ∷ [])) ≡
     codes "++" ∷ codes "++" ∷ []
+unfolding encode_utf8
 empty_frame = refl
 
 -- ---- a nested table beside a slot that no cell covers
 
 abbrev nested : Picture
-nested = picture Frame (record { cols = 1; rows = 1; places = place 0 1 0 1 ∷ [] }) (1 ∷ []) (1 ∷ []) ((one 0x78 ∷ []) ∷ [])
+nested = picture Frame (grid 1 1 (place 0 1 0 1 ∷ []) None) (1 ∷ []) (1 ∷ []) ((one 0x78 ∷ []) ∷ [])
 
 abbrev around : Style → List Line → Picture
-around style page = picture style (record { cols = 2; rows = 2; places = place 0 1 0 1 ∷ place 1 2 0 1 ∷ place 0 1 1 2 ∷ [] })
+around style page = picture style (grid 2 2 (place 0 1 0 1 ∷ place 1 2 0 1 ∷ place 0 1 1 2 ∷ []) None)
     (3 ∷ 1 ∷ []) (1 ∷ 3 ∷ [])
     ((one 0x61 ∷ []) ∷ (one 0x62 ∷ []) ∷ page ∷ [])
 
@@ -122,9 +228,11 @@ nested_frame : lines_of (around Frame nested_page) ≡
     ∷ codes "||x|| |"
     ∷ codes "|+-+| |"
     ∷ codes "+---+-+" ∷ []
+unfolding encode_utf8
 nested_frame = refl
 
 -- in style plain the slot is blank, and so is the gap
 nested_plain : lines_of (around Plain nested_page) ≡
     codes "a    b" ∷ codes "+-+   " ∷ codes "|x|   " ∷ codes "+-+   " ∷ []
+unfolding encode_utf8
 nested_plain = refl

@@ -6,7 +6,7 @@ use Rattle.std.specs.List.{All, AllZip, flat_map}
 use Rattle.std.proofs.lemmas.List.{drop_at, length-append}
 use Rattle.tl_base.specs.declared.limits.TheConstants.{MAX_COLUMNS, MAX_HEIGHT, MAX_PAGE_WIDTH, MAX_ROWS}
 use Rattle.tl_base.specs.declared.style.Style.{Style}
-use Rattle.tl_base.specs.Style.{gap_of, row_gap_of, edge_of}
+use Rattle.tl_base.specs.Style.{gap_of, row_gap_of, edges_of}
 use Rattle.tl_base.proofs.SizeLaws.{sum-total}
 use Rattle.tl_grid.specs.Dropping.{IsPlaced}
 use Rattle.tl_table.specs.declared.cell.Content.{Content as Block, out-Content}
@@ -65,7 +65,7 @@ pub small_widths : (style : Style) (table : OpenTable) (layout : OpenLayout) â†’
 small_widths style table layout sound fit =
     omega (
       arith,
-      sum-total (gap_of style) (edge_of style) layout.widths,
+      sum-total (gap_of style) (edges_of style) layout.widths,
       fit.fits.columns,
       fit.fits.within,
       fit.narrow,
@@ -77,7 +77,7 @@ pub small_heights : (style : Style) (table : OpenTable) (layout : OpenLayout) â†
 small_heights style table layout sound fit =
     omega (
       arith,
-      sum-total (row_gap_of style) (edge_of style) layout.heights,
+      sum-total (row_gap_of style) (edges_of style) layout.heights,
       fit.fits.rows,
       fit.fits.high,
       fit.low,

@@ -1,6 +1,7 @@
 mod Examples
 pub mod Ranges
 pub mod StripLemmas
+pub mod SignLemmas
 pub mod SlotLemmas
 pub mod LineTexts
 pub mod ParagraphLines
@@ -10,6 +11,8 @@ pub mod Progress
 pub mod Blocks
 pub mod PictureLemmas
 pub mod PageLaws
+pub mod TrimLaws
+mod TrimExamples
 pub mod WidthLemmas
 pub mod Sweeping
 pub mod Meeting

@@ -6,7 +6,7 @@ use Rattle.std.specs.List.{All, AllByRecursion, AllPairs, AllZip}
 use Rattle.std.proofs.lemmas.Bool.{eq-eqb}
 use Rattle.std.proofs.lemmas.Option.{none-some, same_Some, slice_get_within, get_or_from_slice_get}
 use Rattle.tl_base.specs.declared.style.Style.{Style}
-use Rattle.tl_base.specs.Style.{gap_of, row_gap_of, edge_of}
+use Rattle.tl_base.specs.Style.{gap_of, row_gap_of, edge_of, edges_of}
 use Rattle.tl_grid.specs.declared.shape.Place.{Place}
 use Rattle.tl_grid.specs.Dropping.{IsPlaced}
 use Rattle.tl_grid.specs.Slots.{AreApart}
@@ -14,10 +14,10 @@ use Rattle.tl_base.specs.Sizes.{position, room, total}
 use Rattle.tl_page.specs.declared.line.Drawn.{Drawn}
 use Rattle.tl_page.specs.declared.line.Line.{Line}
 use Rattle.tl_page.specs.declared.strip.Strip.{Strip}
-use Rattle.tl_page.specs.Corners.{Grid, owner_of}
+use Rattle.tl_page.specs.Corners.{Grid, owner_of, is_under}
 use Rattle.tl_page.specs.Pictures.{drawn_cell, drawn_cells, picture, filled, spaces, inside_cell, piece, picture_line}
 use Rattle.tl_page.specs.Widths.{TakesColumns}
-use Rattle.tl_page.proofs.WidthLemmas.{HasWidth-append, HasWidth-signs}
+use Rattle.tl_page.proofs.WidthLemmas.{HasWidth-append, HasWidth-spaces}
 use Rattle.tl_page.proofs.Sweeping.{IsSwept, strip_with, stands, whole_line}
 use Rattle.tl_page.proofs.Meeting.{through, through_both, through_same, bare_slot, cell_slot, gap_between, lies_over, has_slots}
 
@@ -28,10 +28,10 @@ IsInRoom columns line = TakesColumns line.text line.width × (line.width ≤ col
 line_filled : (columns : ℕ) (line : Line) → IsInRoom columns line → TakesColumns (filled columns (Some line)) columns
 line_filled columns line (wide, within) =
     HasWidth-append line.text (spaces (columns - line.width)) line.width (columns - line.width) columns wide
-    (HasWidth-signs 0x20 (columns - line.width) (0, omega arith, refl)) (omega (arith, within))
+    (HasWidth-spaces (columns - line.width)) (omega (arith, within))
 
 none_filled : (columns : ℕ) → TakesColumns (filled columns None) columns
-none_filled columns = HasWidth-signs 0x20 columns (0, omega arith, refl)
+none_filled columns = HasWidth-spaces columns
 
 any_filled : (columns : ℕ) (lines : List Line) (k : ℕ) → AllByRecursion (IsInRoom columns) lines →
     TakesColumns (filled columns (slice_get lines k)) columns
@@ -139,28 +139,28 @@ module _ (style : Style) (grid : Grid) (widths heights : List ℕ) (contents : L
           subst (λ some. TakesColumns (content_at some y) (room (gap_of style) widths place.left place.right)) (sym cell.3)
           (any_filled (room (gap_of style) widths place.left place.right) cell.0
           (y - (edge_of style + position (row_gap_of style) heights place.top)) cell.1);
-      bare = λ slot from size none. bare_slot style (drawn_cells style widths heights grid.places contents)
+      bare = λ slot from size none. bare_slot style (is_under grid.head down) (drawn_cells style widths heights grid.places contents)
           (owner_of grid slot down.before)
           (owner_of grid slot down.after) (strip_with slot slot from size) y none;
       begun = λ slot from size n place some at begins. let cell = drawn_at n place at in
-          cell_slot style (drawn_cells style widths heights grid.places contents) (owner_of grid slot down.before)
+          cell_slot style (is_under grid.head down) (drawn_cells style widths heights grid.places contents) (owner_of grid slot down.before)
           (owner_of grid slot down.after) (strip_with slot slot from size) y n some
           ∙ ap (λ some. inside_cell some (strip_with slot slot from size) y) cell.3
           ∙ begun_cell (drawn_cell style widths heights place cell.0) slot from size y begins
           ∙ ap (λ some. content_at some y) (sym cell.3);
       later = λ slot from size n place some at beyond. let cell = drawn_at n place at in
-          cell_slot style (drawn_cells style widths heights grid.places contents) (owner_of grid slot down.before)
+          cell_slot style (is_under grid.head down) (drawn_cells style widths heights grid.places contents) (owner_of grid slot down.before)
           (owner_of grid slot down.after) (strip_with slot slot from size) y n some
           ∙ ap (λ some. inside_cell some (strip_with slot slot from size) y) cell.3
           ∙ later_cell (drawn_cell style widths heights place cell.0) slot from size y beyond;
-      between = λ slot from size. gap_between style (drawn_cells style widths heights grid.places contents)
+      between = λ slot from size. gap_between style (is_under grid.head down) (drawn_cells style widths heights grid.places contents)
           (owner_of grid slot down.before)
           (owner_of grid (slot + 1) down.before) (owner_of grid slot down.after) (owner_of grid (slot + 1) down.after)
           slot from size y;
     }
 
     pub line_wide : TakesColumns (picture_line (picture style grid widths heights contents) down y)
-        (total (gap_of style) (edge_of style) widths)
+        (total (gap_of style) (edges_of style) widths)
     line_wide = whole_line kind grid.places (gap_of style) (edge_of style) widths content piece_at swept
 
     -- the line of a cell that goes through stands after all columns before the cell

@@ -1,12 +1,11 @@
 -- Where two strips meet: what stands there is the content of a cell that goes through, or is drawn.
 use Rattle.std.proofs.Common.{◌≡◌, ◌⊎◌, inl, inr, ℕ, zero, suc, ◌+◌, ◌-◌, ◌<◌, ◌≤◌, Bool, true, false, not, ◌&&◌, ◌==◌, List, []}
 use Rattle.std.proofs.Common.{◌∷◌, Option, Some}
-use Rattle.std.proofs.Common.{None, get_or, slice_get, replicate, refl, sym, ◌∙◌, ap, subst, arith, tests, if◌then◌else◌}
+use Rattle.std.proofs.Common.{None, get_or, slice_get, refl, sym, ◌∙◌, ap, subst, arith, tests, if◌then◌else◌}
 use Rattle.std.specs.List.{All, AllPairs}
 use Rattle.std.proofs.lemmas.Bool.{cases_Bool, eq-eqb, eqb-true, and_parts, false≢true}
 use Rattle.std.proofs.lemmas.Option.{none-some, same_Some, slice_get_within, get_or_from_slice_get}
 use Rattle.tl_base.specs.declared.style.Style.{Style}
-use Rattle.tl_base.specs.declared.style.Style.TheVariants.{Plain, Compact, Frame}
 use Rattle.tl_grid.specs.declared.shape.Place.{Place}
 use Rattle.tl_grid.specs.Dropping.{IsPlaced}
 use Rattle.tl_grid.specs.Slots.{AreApart}
@@ -15,9 +14,10 @@ use Rattle.tl_page.specs.declared.line.Drawn.{Drawn}
 use Rattle.tl_page.specs.declared.owner.Owner.{Owner}
 use Rattle.tl_page.specs.declared.owner.Owner.TheVariants.{Outside, Bare, Cell}
 use Rattle.tl_page.specs.declared.strip.Strip.{Strip}
-use Rattle.tl_page.specs.Corners.{Grid, covers_slot, number_over, owned, owner_of, is_inside, is_same, is_one, sign, corner_sign}
-use Rattle.tl_page.specs.Pictures.{filled, inside, inside_cell}
-use Rattle.tl_page.specs.Widths.{IsSign}
+use Rattle.tl_page.specs.Corners.{Grid, covers_slot, number_over, owned, owner_of, is_inside, is_same, is_one, corner_sign}
+use Rattle.tl_page.specs.Pictures.{filled, inside, inside_cell, spaces}
+use Rattle.tl_page.specs.Signs.{run}
+use Rattle.tl_page.proofs.SignLemmas.{run-spaces, sign_is}
 use Rattle.tl_page.proofs.Sweeping.{IsDrawn, strip_with}
 
 -- the cell that both owners are, if they are one
@@ -56,33 +56,27 @@ same_cell n (Cell m) same = ap Cell (sym (eqb-true n m same))
 
 -- ---- what is drawn
 
-pub sign_is : (style : Style) (up down left right : Bool) → IsSign (sign style up down left right)
-sign_is Plain up down left right = (0, omega arith, refl)
-sign_is Compact up down left right = (0, omega arith, refl)
-sign_is Frame true true false false = (1, omega arith, refl)
-sign_is Frame false false true true = (2, omega arith, refl)
-sign_is Frame up down left right = (3, omega arith, refl)
-
 -- what stands where the four owners meet
-abbrev pub met : Style → List Drawn → Corner → Strip → ℕ → List ℕ
-met style cells corner across y = if is_one corner then inside cells corner.up_left across y else replicate across.size
-    (corner_sign style corner)
+abbrev pub met : Style → Bool → List Drawn → Corner → Strip → ℕ → List ℕ
+met style under cells corner across y = if is_one corner then inside cells corner.up_left across y else run across.size
+    (corner_sign style under corner)
 
-drawn_corner : (style : Style) (cells : List Drawn) (corner : Corner) (across : Strip) (y : ℕ) → is_one corner ≡ false →
-    IsDrawn across.size (met style cells corner across y)
-drawn_corner style cells corner across y not_one = (
-  corner_sign style corner,
-  sign_is style (not (is_same corner.up_left corner.up_right)) (not (is_same corner.down_left corner.down_right))
+drawn_corner : (style : Style) (under : Bool) (cells : List Drawn) (corner : Corner) (across : Strip) (y : ℕ) → is_one corner ≡ false →
+    IsDrawn across.size (met style under cells corner across y)
+drawn_corner style under cells corner across y not_one = (
+  corner_sign style under corner,
+  sign_is style under (not (is_same corner.up_left corner.up_right)) (not (is_same corner.down_left corner.down_right))
       (not (is_same corner.up_left corner.down_left)) (not (is_same corner.up_right corner.down_right)),
-  ap (λ t. if t then inside cells corner.up_left across y else replicate across.size (corner_sign style corner)) not_one,
+  ap (λ t. if t then inside cells corner.up_left across y else run across.size (corner_sign style under corner)) not_one,
 )
 
-drawn_blank : (style : Style) (cells : List Drawn) (corner : Corner) (across : Strip) (y : ℕ) → is_one corner ≡ true →
-    inside cells corner.up_left across y ≡ replicate across.size 0x20 → IsDrawn across.size (met style cells corner across y)
-drawn_blank style cells corner across y one blank = (
+drawn_blank : (style : Style) (under : Bool) (cells : List Drawn) (corner : Corner) (across : Strip) (y : ℕ) → is_one corner ≡ true →
+    inside cells corner.up_left across y ≡ spaces across.size → IsDrawn across.size (met style under cells corner across y)
+drawn_blank style under cells corner across y one blank = (
   0x20,
   (0, omega arith, refl),
-  ap (λ t. if t then inside cells corner.up_left across y else replicate across.size (corner_sign style corner)) one ∙ blank,
+  ap (λ t. if t then inside cells corner.up_left across y else run across.size (corner_sign style under corner)) one ∙ blank
+      ∙ sym (run-spaces across.size),
 )
 
 -- ---- inside a column
@@ -90,29 +84,29 @@ drawn_blank style cells corner across y one blank = (
 abbrev two : Owner → Owner → Corner
 two above below = record { up_left = above; up_right = above; down_left = below; down_right = below }
 
-pub bare_slot : (style : Style) (cells : List Drawn) (above below : Owner) (across : Strip) (y : ℕ) → through above below ≡ None →
-    IsDrawn across.size (met style cells (two above below) across y)
-bare_slot style cells above below across y none = elim (cases_Bool (is_one (two above below))) [
-  | inr differs ↦ drawn_corner style cells (two above below) across y differs
+pub bare_slot : (style : Style) (under : Bool) (cells : List Drawn) (above below : Owner) (across : Strip) (y : ℕ) → through above below ≡ None →
+    IsDrawn across.size (met style under cells (two above below) across y)
+bare_slot style under cells above below across y none = elim (cases_Bool (is_one (two above below))) [
+  | inr differs ↦ drawn_corner style under cells (two above below) across y differs
   | inl one ↦ blank above one none
 ] where
   blank : (owner : Owner) → is_one (two owner below) ≡ true → through owner below ≡ None →
-      IsDrawn across.size (met style cells (two owner below) across y)
-  blank Outside one none = drawn_blank style cells (two Outside below) across y one refl
-  blank (Bare column row) one none = drawn_blank style cells (two (Bare column row) below) across y one refl
+      IsDrawn across.size (met style under cells (two owner below) across y)
+  blank Outside one none = drawn_blank style under cells (two Outside below) across y one refl
+  blank (Bare column row) one none = drawn_blank style under cells (two (Bare column row) below) across y one refl
   blank (Cell n) one none =
       let below_too = same_cell n below (and_parts (is_same (Cell n) (Cell n) && is_same (Cell n) below)
       (is_same (Cell n) below) one).1 in
       absurd (none-some n (sym none ∙ ap (through (Cell n)) below_too ∙ through_same n))
 
-pub cell_slot : (style : Style) (cells : List Drawn) (above below : Owner) (across : Strip) (y n : ℕ) →
+pub cell_slot : (style : Style) (under : Bool) (cells : List Drawn) (above below : Owner) (across : Strip) (y n : ℕ) →
     through above below ≡ Some n →
-    met style cells (two above below) across y ≡ inside_cell (slice_get cells n) across y
-cell_slot style cells above below across y n some =
+    met style under cells (two above below) across y ≡ inside_cell (slice_get cells n) across y
+cell_slot style under cells above below across y n some =
     let both = through_both above below n some in
-    ap (λ owner. met style cells (two owner below) across y) both.0
-    ∙ ap (λ owner. met style cells (two (Cell n) owner) across y) both.1
-    ∙ ap (λ t. if t then inside cells (Cell n) across y else replicate across.size (corner_sign style (two (Cell n) (Cell n))))
+    ap (λ owner. met style under cells (two owner below) across y) both.0
+    ∙ ap (λ owner. met style under cells (two (Cell n) owner) across y) both.1
+    ∙ ap (λ t. if t then inside cells (Cell n) across y else run across.size (corner_sign style under (two (Cell n) (Cell n))))
     one where
       one : is_one (two (Cell n) (Cell n)) ≡ true
       one = ap (λ t. (t && t) && t) (eq-eqb n n refl)
@@ -139,23 +133,23 @@ none_between (Some cell) slot from size y =
       never text false other both = refl
 
 -- where all four have one owner, a cell goes on, and else the gap is blank
-one_between : (style : Style) (cells : List Drawn) (owner : Owner) (up_right down_left down_right : Owner)
+one_between : (style : Style) (under : Bool) (cells : List Drawn) (owner : Owner) (up_right down_left down_right : Owner)
     (slot from size y : ℕ) →
     is_one (four owner up_right down_left down_right) ≡ true →
-    (IsDrawn size (met style cells (four owner up_right down_left down_right) (strip_with slot (slot + 1) from size) y)
+    (IsDrawn size (met style under cells (four owner up_right down_left down_right) (strip_with slot (slot + 1) from size) y)
     × ((n : ℕ) → through owner down_left ≡ Some n → through up_right down_right ≡ Some n → ⊥))
     ⊎ ((n : ℕ) × (through owner down_left ≡ Some n) × (through up_right down_right ≡ Some n)
-    × (met style cells (four owner up_right down_left down_right) (strip_with slot (slot + 1) from size) y ≡ []))
-one_between style cells Outside up_right down_left down_right slot from size y one = inl (
-  drawn_blank style cells (four Outside up_right down_left down_right) (strip_with slot (slot + 1) from size) y one refl,
+    × (met style under cells (four owner up_right down_left down_right) (strip_with slot (slot + 1) from size) y ≡ []))
+one_between style under cells Outside up_right down_left down_right slot from size y one = inl (
+  drawn_blank style under cells (four Outside up_right down_left down_right) (strip_with slot (slot + 1) from size) y one refl,
   λ n left right. none-some n left,
 )
-one_between style cells (Bare column row) up_right down_left down_right slot from size y one = inl (
-  drawn_blank style cells (four (Bare column row) up_right down_left down_right) (strip_with slot (slot + 1) from size)
+one_between style under cells (Bare column row) up_right down_left down_right slot from size y one = inl (
+  drawn_blank style under cells (four (Bare column row) up_right down_left down_right) (strip_with slot (slot + 1) from size)
       y one refl,
   λ n left right. none-some n left,
 )
-one_between style cells (Cell n) up_right down_left down_right slot from size y one =
+one_between style under cells (Cell n) up_right down_left down_right slot from size y one =
     let first = and_parts (is_same (Cell n) up_right && is_same (Cell n) down_left) (is_same (Cell n) down_right) one in
     let second = and_parts (is_same (Cell n) up_right) (is_same (Cell n) down_left) first.0 in
     let right = same_cell n up_right second.0 in
@@ -166,20 +160,20 @@ one_between style cells (Cell n) up_right down_left down_right slot from size y 
       ap (through (Cell n)) left ∙ through_same n,
       ap (λ owner. through owner down_right) right ∙ ap (through (Cell n)) down ∙ through_same n,
       ap (λ t. if t then inside cells (Cell n) (strip_with slot (slot + 1) from size) y
-          else replicate size (corner_sign style (four (Cell n) up_right down_left down_right))) one
+          else run size (corner_sign style under (four (Cell n) up_right down_left down_right))) one
           ∙ none_between (slice_get cells n) slot from size y,
     )
 
-pub gap_between : (style : Style) (cells : List Drawn) (up_left up_right down_left down_right : Owner) (slot from size y : ℕ) →
-    (IsDrawn size (met style cells (four up_left up_right down_left down_right) (strip_with slot (slot + 1) from size) y)
+pub gap_between : (style : Style) (under : Bool) (cells : List Drawn) (up_left up_right down_left down_right : Owner) (slot from size y : ℕ) →
+    (IsDrawn size (met style under cells (four up_left up_right down_left down_right) (strip_with slot (slot + 1) from size) y)
     × ((n : ℕ) → through up_left down_left ≡ Some n → through up_right down_right ≡ Some n → ⊥))
     ⊎ ((n : ℕ) × (through up_left down_left ≡ Some n) × (through up_right down_right ≡ Some n)
-    × (met style cells (four up_left up_right down_left down_right) (strip_with slot (slot + 1) from size) y ≡ []))
-gap_between style cells up_left up_right down_left down_right slot from size y =
+    × (met style under cells (four up_left up_right down_left down_right) (strip_with slot (slot + 1) from size) y ≡ []))
+gap_between style under cells up_left up_right down_left down_right slot from size y =
     elim (cases_Bool (is_one (four up_left up_right down_left down_right))) [
-      | inl one ↦ one_between style cells up_left up_right down_left down_right slot from size y one
+      | inl one ↦ one_between style under cells up_left up_right down_left down_right slot from size y one
       | inr differs ↦ inl (
-        drawn_corner style cells (four up_left up_right down_left down_right) (strip_with slot (slot + 1) from size) y differs,
+        drawn_corner style under cells (four up_left up_right down_left down_right) (strip_with slot (slot + 1) from size) y differs,
         λ n left right. not_all n left right differs,
       )
     ] where

@@ -52,7 +52,7 @@ high-from picture gap edge slot from size (next ∷ sizes) =
     )
 
 high : (picture : Picture) (gap edge : ℕ) (sizes : List ℕ) →
-    length (flat_map (strip_lines picture) (strips gap edge sizes)) ≡ total gap edge sizes
+    length (flat_map (strip_lines picture) (strips gap edge sizes)) ≡ total gap (2 * edge) sizes
 high picture gap edge [] = refl
 high picture gap edge (size ∷ sizes) =
     let first : Strip = record { before = 0; after = 1; from = 0; size = edge } in

@@ -1,5 +1,5 @@
 -- Pictures that are the same, piece by piece.
-use Rattle.std.proofs.Common.{◌≡◌, ℕ, ◌+◌, List, ◌∙◌, ap}
+use Rattle.std.proofs.Common.{◌≡◌, ℕ, ◌+◌, List, Option, ◌∙◌, ap}
 use Rattle.std.proofs.Math.Path.{fun_ext}
 use Rattle.tl_base.specs.declared.style.Style.{Style}
 use Rattle.tl_base.specs.Style.{gap_of, row_gap_of, edge_of}
@@ -12,16 +12,26 @@ use Rattle.tl_page.specs.declared.strip.Strip.{Strip}
 use Rattle.tl_page.specs.Pictures.{Picture, drawn_cell}
 use Rattle.tl_page.specs.Strips.{strips}
 
-abbrev made : Style → List Strip → List Strip → (ℕ → ℕ → Owner) → List Drawn → Picture
-made style across down owner cells = record { style = style; across = across; down = down; owner = owner; cells = cells }
+abbrev made : Style → List Strip → List Strip → (ℕ → ℕ → Owner) → Option ℕ → List Drawn → Picture
+made style across down owner head cells = record {
+  style = style;
+  across = across;
+  down = down;
+  owner = owner;
+  head = head;
+  cells = cells;
+}
 
-pub same_picture : (style : Style) (across across' down down' : List Strip) (owner owner' : ℕ → ℕ → Owner) (cells : List Drawn) →
-    across ≡ across' → down ≡ down' → ((column row : ℕ) → owner column row ≡ owner' column row) →
-    made style across down owner cells ≡ made style across' down' owner' cells
-same_picture style across across' down down' owner owner' cells one two three =
-    ap (λ (some : List Strip). made style some down owner cells) one
-    ∙ ap (λ (some : List Strip). made style across' some owner cells) two
-    ∙ ap (λ (some : ℕ → ℕ → Owner). made style across' down' some cells) (fun_ext (λ column. fun_ext (λ row. three column row)))
+pub same_picture : (style : Style) (across across' down down' : List Strip) (owner owner' : ℕ → ℕ → Owner)
+    (head head' : Option ℕ) (cells : List Drawn) →
+    across ≡ across' → down ≡ down' → ((column row : ℕ) → owner column row ≡ owner' column row) → head ≡ head' →
+    made style across down owner head cells ≡ made style across' down' owner' head' cells
+same_picture style across across' down down' owner owner' head head' cells one two three four =
+    ap (λ (some : List Strip). made style some down owner head cells) one
+    ∙ ap (λ (some : List Strip). made style across' some owner head cells) two
+    ∙ ap (λ (some : ℕ → ℕ → Owner). made style across' down' some head cells)
+    (fun_ext (λ column. fun_ext (λ row. three column row)))
+    ∙ ap (λ (some : Option ℕ). made style across' down' owner' some cells) four
 
 pub same_strips : (gap gap' edge edge' : ℕ) (sizes sizes' : List ℕ) → gap ≡ gap' → edge ≡ edge' → sizes ≡ sizes' →
     strips gap edge sizes ≡ strips gap' edge' sizes'

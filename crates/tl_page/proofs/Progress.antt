@@ -9,7 +9,7 @@ use Rattle.std.proofs.lemmas.List.Sums.{sum_by-cons}
 use Rattle.tl_base.proofs.Zips.{AllZip-weaker, AllZip-length}
 use Rattle.tl_base.specs.declared.limits.TheConstants.{MAX_HEIGHT, MAX_PAGE_WIDTH}
 use Rattle.tl_base.specs.declared.style.Style.{Style}
-use Rattle.tl_base.specs.Style.{gap_of, row_gap_of, edge_of}
+use Rattle.tl_base.specs.Style.{gap_of, row_gap_of, edges_of}
 use Rattle.tl_grid.specs.Dropping.{IsPlaced}
 use Rattle.tl_grid.specs.declared.shape.Place.{Place}
 use Rattle.tl_base.proofs.SizeLaws.{room-total}
@@ -229,7 +229,7 @@ narrow_room style table layout place fit placed =
     let within : place.right ≤ length layout.widths = omega (arith, fit.fits.columns, placed.1) in
     omega (
       arith,
-      room-total (gap_of style) (edge_of style) layout.widths place.left place.right placed.0 within,
+      room-total (gap_of style) (edges_of style) layout.widths place.left place.right placed.0 within,
       fit.fits.within,
       fit.narrow,
     )
@@ -240,7 +240,7 @@ low_room style table layout place fit placed =
     let within : place.bottom ≤ length layout.heights = omega (arith, fit.fits.rows, placed.3) in
     omega (
       arith,
-      room-total (row_gap_of style) (edge_of style) layout.heights place.top place.bottom placed.2 within,
+      room-total (row_gap_of style) (edges_of style) layout.heights place.top place.bottom placed.2 within,
       fit.fits.high,
       fit.low,
     )

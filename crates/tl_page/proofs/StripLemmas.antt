@@ -78,16 +78,16 @@ length-from gap edge slot from (size ∷ sizes) =
     omega (arith, length-from gap edge (slot + 1) (from + size + gap) sizes)
 
 -- no strip, no size
-pub total-none : (gap edge : ℕ) (sizes : List ℕ) → length (strips gap edge sizes) ≡ 0 → 0 ≡ total gap edge sizes
+pub total-none : (gap edge : ℕ) (sizes : List ℕ) → length (strips gap edge sizes) ≡ 0 → 0 ≡ total gap (2 * edge) sizes
 total-none gap edge [] none = refl
 total-none gap edge (size ∷ sizes) none = absurd (omega arith)
 
 pub total-last : (gap edge : ℕ) (sizes : List ℕ) (none : Strip) → 0 < length (strips gap edge sizes) →
-    (get_or (strips gap edge sizes) (length (strips gap edge sizes) - 1) none).from + edge ≡ total gap edge sizes
+    (get_or (strips gap edge sizes) (length (strips gap edge sizes) - 1) none).from + edge ≡ total gap (2 * edge) sizes
 total-last gap edge [] none some = absurd (omega arith)
 total-last gap edge (size ∷ sizes) none some =
     let last : length (strips gap edge (size ∷ sizes)) - 1 ≡ 2 * length (size ∷ sizes) =
     omega (arith, length-from gap edge 1 edge (size ∷ sizes)) in
     let end = ends gap edge (size ∷ sizes) (length (size ∷ sizes)) none (omega arith) (omega arith) in
-    let whole = total-position gap edge (size ∷ sizes) (omega arith) in
+    let whole = total-position gap (2 * edge) (size ∷ sizes) (omega arith) in
     ap (λ place. (get_or (strips gap edge (size ∷ sizes)) place none).from + edge) last ∙ omega (arith, end, whole)

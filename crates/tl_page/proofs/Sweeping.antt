@@ -1,7 +1,7 @@
 -- A line of a page, swept from left to right: where a cell has begun, all its room is written at once.
-use Rattle.std.proofs.Common.{◌≡◌, ◌⊎◌, inl, inr, ℕ, zero, suc, ◌+◌, ◌<◌, ◌≤◌, List, [], ◌∷◌, ◌++◌, Option, Some, None, length}
+use Rattle.std.proofs.Common.{◌≡◌, ◌⊎◌, inl, inr, ℕ, zero, suc, ◌+◌, ◌*◌, ◌<◌, ◌≤◌, List, [], ◌∷◌, ◌++◌, Option, Some, None, length}
 use Rattle.std.proofs.Common.{drop}
-use Rattle.std.proofs.Common.{get_or, slice_get, replicate, refl, sym, ◌∙◌, ap, subst, append_assoc, append-nil, arith}
+use Rattle.std.proofs.Common.{get_or, slice_get, refl, sym, ◌∙◌, ap, subst, append_assoc, append-nil, arith}
 use Rattle.std.specs.List.{flat_map}
 use Rattle.std.proofs.lemmas.List.{drop_more, drop_all}
 use Rattle.std.proofs.lemmas.Bool.{cases_lt}
@@ -11,16 +11,17 @@ use Rattle.tl_base.specs.Sizes.{position, room, total}
 use Rattle.tl_base.proofs.SizeLaws.{total-position, room-position, position-next}
 use Rattle.tl_page.specs.declared.strip.Strip.{Strip}
 use Rattle.tl_page.specs.Strips.{following, strips_from, strips}
-use Rattle.tl_page.specs.Widths.{IsSign, TakesColumns}
+use Rattle.tl_page.specs.Signs.{IsSign, run}
+use Rattle.tl_page.specs.Widths.{TakesColumns}
 use Rattle.tl_page.proofs.StripLemmas.{following-more}
-use Rattle.tl_page.proofs.WidthLemmas.{HasWidth-append, HasWidth-signs, HasWidth-same, HasWidth-none}
+use Rattle.tl_page.proofs.WidthLemmas.{HasWidth-append, HasWidth-run, HasWidth-same, HasWidth-none}
 
 -- a run of one sign
 abbrev pub IsDrawn : ℕ → List ℕ → Type 0
-IsDrawn size text = (sign : ℕ) × IsSign sign × (text ≡ replicate size sign)
+IsDrawn size text = (sign : ℕ) × IsSign sign × (text ≡ run size sign)
 
 drawn_width : (size : ℕ) (text : List ℕ) → IsDrawn size text → TakesColumns text size
-drawn_width size text (sign, is, same) = HasWidth-same (replicate size sign) text size (HasWidth-signs sign size is) (sym same)
+drawn_width size text (sign, is, same) = HasWidth-same (run size sign) text size (HasWidth-run sign size is) (sym same)
 
 abbrev pub strip_with : ℕ → ℕ → ℕ → ℕ → Strip
 strip_with before after from size = record { before = before; after = after; from = from; size = size }
@@ -345,15 +346,15 @@ module _ (kind : ℕ → Option ℕ) (places : List Place) (gap edge : ℕ) (wid
 
     -- the line is as wide as all columns, with the gaps and both edges
     last_line : (slot : ℕ) → slot + 1 ≡ length widths → After (flat_map piece (strips gap edge widths)) slot →
-        TakesColumns (flat_map piece (strips gap edge widths)) (total gap edge widths)
+        TakesColumns (flat_map piece (strips gap edge widths)) (total gap (2 * edge) widths)
     last_line slot end after =
         let none : drop (slot + 1) widths ≡ [] = drop_all (slot + 1) widths (omega (arith, end)) in
         let beyond = λ (sizes : List ℕ). piece (strip_with (slot + 1) (slot + 1 + 1) after.from (following gap edge sizes))
         ++ flat_map piece (strips_from gap edge (slot + 1 + 1) (after.from + gap) sizes) in
         let text = piece (strip_with (slot + 1) (slot + 1 + 1) after.from edge) in
-        HasWidth-same (after.written ++ text) (flat_map piece (strips gap edge widths)) (total gap edge widths)
-        (HasWidth-append after.written text after.width edge (total gap edge widths) after.wide (drawn_width edge text drawn)
-        (omega (arith, after.all, ap (position gap widths) (past ∙ end), total-position gap edge widths (omega (arith, end)))))
+        HasWidth-same (after.written ++ text) (flat_map piece (strips gap edge widths)) (total gap (2 * edge) widths)
+        (HasWidth-append after.written text after.width edge (total gap (2 * edge) widths) after.wide (drawn_width edge text drawn)
+        (omega (arith, after.all, ap (position gap widths) (past ∙ end), total-position gap (2 * edge) widths (omega (arith, end)))))
         (sym (after.left ∙ ap (λ sizes. after.written ++ beyond sizes) none ∙ ap (λ more. after.written ++ more)
         (append-nil text))) where
           nothing : (n : ℕ) → kind (slot + 1 + 1) ≡ Some n → ⊥
@@ -374,10 +375,10 @@ module _ (kind : ℕ → Option ℕ) (places : List Place) (gap edge : ℕ) (wid
                 omega (arith, beyond, same, lies.3, lies.4, end)
           ]
 
-    pub whole_line : TakesColumns (flat_map piece (strips gap edge widths)) (total gap edge widths)
+    pub whole_line : TakesColumns (flat_map piece (strips gap edge widths)) (total gap (2 * edge) widths)
     whole_line = whole widths refl where
-      whole : (sizes : List ℕ) → widths ≡ sizes → TakesColumns (flat_map piece (strips gap edge widths)) (total gap edge widths)
-      whole [] none = subst (λ (sizes : List ℕ). TakesColumns (flat_map piece (strips gap edge sizes)) (total gap edge sizes))
+      whole : (sizes : List ℕ) → widths ≡ sizes → TakesColumns (flat_map piece (strips gap edge widths)) (total gap (2 * edge) widths)
+      whole [] none = subst (λ (sizes : List ℕ). TakesColumns (flat_map piece (strips gap edge sizes)) (total gap (2 * edge) sizes))
           (sym none) HasWidth-none
       whole (size ∷ sizes) some =
           let text = flat_map piece (strips gap edge widths) in

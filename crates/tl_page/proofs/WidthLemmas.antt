@@ -1,6 +1,7 @@
 -- Texts side by side take the columns of all of them.
-use Rattle.std.proofs.Common.{◌≡◌, inl, inr, ℕ, zero, suc, ◌+◌, List, [], ◌∷◌, ◌++◌, replicate, sum_by, refl, ◌∙◌, ap, ap₂}
+use Rattle.std.proofs.Common.{◌≡◌, inl, inr, ℕ, zero, suc, ◌+◌, List, [], ◌∷◌, ◌++◌, sum_by, refl, ◌∙◌, ap, ap₂}
 use Rattle.std.proofs.Common.{append-nil, arith}
+use Rattle.std.specs.Char.{encode_utf8}
 use Rattle.std.specs.List.{AllByRecursion, flat_map}
 use Rattle.std.proofs.lemmas.List.Concat.{flat_map-append}
 use Rattle.std.proofs.lemmas.List.Sums.{sum_by-cons, sum_by-append}
@@ -10,7 +11,9 @@ use Rattle.tl_text.specs.Paragraph.{unit_width, gap_before}
 use Rattle.tl_text.specs.Cuttings.{line_width}
 use Rattle.tl_page.specs.Pages.{text_of, line_text}
 use Rattle.tl_page.specs.Pictures.{spaces}
-use Rattle.tl_page.specs.Widths.{IsSign, IsPiece, TakesColumns}
+use Rattle.tl_page.specs.Signs.{IsSign, run}
+use Rattle.tl_page.specs.Widths.{IsPiece, TakesColumns}
+use Rattle.tl_page.proofs.SignLemmas.{run-spaces}
 
 both : (P : Line → Type 0) (xs ys : List Line) → AllByRecursion P xs → AllByRecursion P ys → AllByRecursion P (xs ++ ys)
 both P [] ys one other = other
@@ -31,15 +34,15 @@ HasWidth-append text more width columns all one other sum = record {
 }
 
 -- a run of one sign
-pub HasWidth-signs : (sign count : ℕ) → IsSign sign → TakesColumns (replicate count sign) count
-HasWidth-signs sign zero is = HasWidth-none
-HasWidth-signs sign (suc count) is =
-    let rest = HasWidth-signs sign count is in
-    let piece : Line = record { text = sign ∷ []; width = 1 } in
+pub HasWidth-run : (sign count : ℕ) → IsSign sign → TakesColumns (run count sign) count
+HasWidth-run sign zero is = HasWidth-none
+HasWidth-run sign (suc count) is =
+    let rest = HasWidth-run sign count is in
+    let piece : Line = record { text = encode_utf8 sign; width = 1 } in
     record {
       pieces = piece ∷ rest.pieces;
       each = (inr (sign, is, refl), rest.each);
-      bytes = ap (λ more. sign ∷ more) rest.bytes;
+      bytes = ap (λ more. encode_utf8 sign ++ more) rest.bytes;
       columns = omega (arith, sum_by-cons (λ (piece : Line). piece.width) piece rest.pieces, rest.columns);
     }
 
@@ -60,6 +63,11 @@ HasWidth-same text other width one same = record {
   columns =
       one.columns;
 }
+
+-- a run of spaces
+pub HasWidth-spaces : (count : ℕ) → TakesColumns (spaces count) count
+HasWidth-spaces count =
+    HasWidth-same (run count 0x20) (spaces count) count (HasWidth-run 0x20 count (0, omega arith, refl)) (run-spaces count)
 
 -- ---- lines of units
 
@@ -84,7 +92,7 @@ HasWidth-units (unit ∷ units) =
     (sum_by unit_width (unit ∷ units) + sum_by gap_before (unit ∷ units))
     (HasWidth-append (spaces (gap_before unit)) (text_of unit) (gap_before unit) (unit_width unit)
     (gap_before unit + unit_width unit)
-    (HasWidth-signs 0x20 (gap_before unit) (0, omega arith, refl)) (HasWidth-unit unit) refl)
+    (HasWidth-spaces (gap_before unit)) (HasWidth-unit unit) refl)
     (HasWidth-units units) (omega (arith, sum_by-cons unit_width unit units, sum_by-cons gap_before unit units))
 
 -- a line takes the columns of its units and of the gaps between them

@@ -3,12 +3,12 @@
 use Rattle.std.specs.Prelude.{ℕ, ◌+◌, ◌&&◌, Bool, true, false, not, nat_lt, nat_le, ◌==◌, List, [], ◌∷◌, Option, Some, None}
 use Rattle.std.specs.Prelude.{if◌then◌else◌}
 use Rattle.tl_base.specs.declared.style.Style.{Style}
-use Rattle.tl_base.specs.declared.style.Style.TheVariants.{Plain, Compact, Frame}
 use Rattle.tl_grid.specs.declared.shape.Place.{Place}
 use Rattle.tl_page.specs.declared.corner.Corner.{Corner}
 use Rattle.tl_page.specs.declared.owner.Owner.{Owner}
 use Rattle.tl_page.specs.declared.owner.Owner.TheVariants.{Outside, Bare, Cell}
 use Rattle.tl_page.specs.declared.strip.Strip.{Strip}
+use Rattle.tl_page.specs.Signs.{sign}
 
 -- ---- owners
 
@@ -28,11 +28,13 @@ abbrev pub owned : ℕ → ℕ → Option ℕ → Owner
 owned column row (Some number) = Cell number
 owned column row None = Bare column row
 
--- a grid: its columns, its rows and the places of its cells
+-- a grid: its columns, its rows, the places of its cells, and the last row of its head, counted from 1, if the line under
+-- the head is drawn
 pub record Grid : Type 0 where
   pub cols : ℕ
   pub rows : ℕ
   pub places : List Place
+  pub head : Option ℕ
 
 -- slot `slot` is one of `count`, counted from 1
 abbrev pub is_inside : ℕ → ℕ → Bool
@@ -69,18 +71,15 @@ is_one corner =
     (is_same corner.up_left corner.up_right && is_same corner.up_left corner.down_left)
     && is_same corner.up_left corner.down_right
 
--- the character of a corner, by whether its sides up, down, left and right are drawn; in styles plain and compact all are spaces
-abbrev pub sign : Style → Bool → Bool → Bool → Bool → ℕ
-sign Plain up down left right = 0x20
-sign Compact up down left right = 0x20
-sign Frame true true false false = 0x7C
-sign Frame false false true true = 0x2D
-sign Frame up down left right = 0x2B
+-- the strip of rows is the line under the head, of which this is the last row, counted from 1
+abbrev pub is_under : Option ℕ → Strip → Bool
+is_under None down = false
+is_under (Some row) down = (down.before == row) && nat_lt row down.after
 
--- a side is drawn where the two slots on both its sides differ
-abbrev pub corner_sign : Style → Corner → ℕ
-corner_sign style corner =
-    sign style
+-- the sign of a corner, which may be on the line under the head; a side is drawn where the two slots on both its sides differ
+abbrev pub corner_sign : Style → Bool → Corner → ℕ
+corner_sign style under corner =
+    sign style under
     (not (is_same corner.up_left corner.up_right))
     (not (is_same corner.down_left corner.down_right))
     (not (is_same corner.up_left corner.down_left))

@@ -1,17 +1,23 @@
 -- Laws of pages: their height and width, and that they hold all text. Each is the contract of a function of `laws`.
-use Rattle.std.specs.Prelude.{◌≡◌, ℕ, List, length, map}
+use Rattle.std.specs.Prelude.{◌≡◌, ℕ, List, [], ◌∷◌, length, map}
 use Rattle.std.specs.List.{AllByRecursion}
 use Rattle.tl_base.specs.declared.style.Style.{Style}
 use Rattle.tl_text.specs.declared.paragraph.Atom.{Atom}
 use Rattle.tl_text.specs.Cuttings.{joined, IsCutting}
+use Rattle.tl_text.specs.Words.{width_of}
 use Rattle.tl_table.specs.declared.cell.Table.{Table}
 use Rattle.tl_table.specs.declared.layout.Layout.{Layout, out-Layout}
 use Rattle.tl_table.specs.Layouts.{Fits, total_width, total_height}
 use Rattle.tl_table.specs.Sound.{IsSound}
 use Rattle.tl_page.specs.declared.line.Line.{Line}
 use Rattle.tl_page.specs.Pages.{AreParagraphLines, IsPage, line_from}
+use Rattle.tl_page.specs.Signs.{IsSign}
 use Rattle.tl_page.specs.Standing.{HoldsAllText}
 use Rattle.tl_page.specs.Widths.{TakesColumns}
+
+-- each character that the lines of a table are drawn with takes one column, by the measure of its words
+abbrev pub SignsTakeAColumn : Type 0
+SignsTakeAColumn = (character : ℕ) → IsSign character → width_of (character ∷ []) ≡ 1
 
 -- a page has as many lines as its layout is high
 abbrev pub PagesAreAsHigh : Type 0

@@ -1,8 +1,10 @@
 pub mod Strips
+pub mod Signs
 pub mod Corners
 pub mod Pictures
 pub mod Pages
 pub mod Widths
 pub mod Standing
+pub mod Trimmed
 pub mod Laws
 pub mod inner

@@ -1,6 +1,7 @@
 -- The text page of a table in a layout. Each cell's content is its blocks one under the other: a paragraph's greedy
 -- lines in the cell's room, and a nested table's own page.
-use Rattle.std.specs.Prelude.{◌≡◌, ℕ, zero, suc, List, [], ◌∷◌, ◌++◌, map, encode_utf8_all}
+use Rattle.std.specs.Prelude.{◌≡◌, ℕ, zero, suc, List, [], ◌∷◌, ◌++◌, ◌&&◌, nat_lt, Option, Some, None, map, encode_utf8_all}
+use Rattle.std.specs.Prelude.{if◌then◌else◌}
 use Rattle.std.specs.List.{AllZip, flat_map}
 use Rattle.tl_base.specs.declared.style.Style.{Style}
 use Rattle.tl_text.specs.declared.paragraph.Atom.{Atom}
@@ -13,6 +14,7 @@ use Rattle.tl_table.specs.declared.cell.Table.{Table, out-Table}
 use Rattle.tl_table.specs.declared.cell.TableCell.{out-TableCell}
 use Rattle.tl_table.specs.declared.layout.Layout.{Layout, out-Layout}
 use Rattle.tl_table.specs.Tables.{OpenTable, OpenCell, OpenContent}
+use Rattle.tl_table.specs.Heads.{caption_rows_of, head_end_of}
 use Rattle.tl_table.specs.Layouts.{OpenLayout, total_width, width_for}
 use Rattle.tl_table.specs.Sound.{places_of}
 use Rattle.tl_page.specs.declared.line.Line.{Line}
@@ -76,9 +78,25 @@ pub record ShowsCell (shows : Table → Layout → List (List ℕ) → Type 0) (
 
 -- ---- pages
 
+-- the last row, counted from 1, of the head of these cells in so many rows, where the line under it is drawn: there is a head,
+-- which a caption is no part of, and a row below it
+abbrev pub head_row_of : List OpenCell → ℕ → Option ℕ
+head_row_of cells rows =
+    let end = head_end_of cells rows in
+    if nat_lt (caption_rows_of cells) end && nat_lt end rows then Some end else None
+
+-- the last row of a table's head, where the line under it is drawn
+abbrev pub head_row : OpenTable → Option ℕ
+head_row table = head_row_of (map out-TableCell table.cells) table.rows
+
 -- the grid of a table
 abbrev pub grid_of : OpenTable → Grid
-grid_of table = record { cols = table.cols; rows = table.rows; places = places_of table }
+grid_of table = record {
+  cols = table.cols;
+  rows = table.rows;
+  places = places_of table;
+  head = head_row table;
+}
 
 -- these are the lines of a table's page; `shows` says the same of the tables nested in its cells
 pub record ShowsBy (shows : Table → Layout → List (List ℕ) → Type 0) (style : Style) (table : OpenTable)

@@ -12,17 +12,20 @@ use Rattle.tl_page.specs.declared.owner.Owner.TheVariants.{Outside, Bare, Cell}
 use Rattle.tl_page.specs.declared.line.Drawn.{Drawn}
 use Rattle.tl_page.specs.declared.line.Line.{Line}
 use Rattle.tl_page.specs.declared.strip.Strip.{Strip}
-use Rattle.tl_page.specs.Corners.{Grid, owner_of, corner_of, corner_sign, is_one}
+use Rattle.tl_page.specs.Corners.{Grid, owner_of, corner_of, corner_sign, is_one, is_under}
+use Rattle.tl_page.specs.Signs.{run}
 use Rattle.tl_page.specs.Strips.{strips}
 
 -- ---- what is drawn
 
--- a table to be drawn: its style, its strips of columns and of rows, who owns each slot, and its cells by their numbers
+-- a table to be drawn: its style, its strips of columns and of rows, who owns each slot, the last row of its head if the
+-- line under it is drawn, and its cells by their numbers
 pub record Picture : Type 0 where
   pub style : Style
   pub across : List Strip
   pub down : List Strip
   pub owner : ℕ → ℕ → Owner
+  pub head : Option ℕ
   pub cells : List Drawn
 
 -- a cell with its lines: it begins in its first column, and on the page's line where its first row begins, and has the
@@ -49,6 +52,7 @@ picture style grid widths heights contents = record {
   across = strips (gap_of style) (edge_of style) widths;
   down = strips (row_gap_of style) (edge_of style) heights;
   owner = owner_of grid;
+  head = grid.head;
   cells = drawn_cells style widths heights grid.places contents;
 }
 
@@ -84,7 +88,7 @@ piece picture down y across =
     let corner = corner_of picture.owner across down in
     if is_one corner
     then inside picture.cells corner.up_left across y
-    else replicate across.size (corner_sign picture.style corner)
+    else run across.size (corner_sign picture.style (is_under picture.head down) corner)
 
 -- line `y` of the page, which lies in a strip of rows
 abbrev pub picture_line : Picture → Strip → ℕ → List ℕ

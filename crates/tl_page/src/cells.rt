@@ -10,6 +10,7 @@ ghost use Rattle.tl_page.specs.Pages.{nested_lines};
 ghost use Rattle.tl_page.specs.Pictures.{lines_of};
 ghost use Rattle.tl_page.specs.inner.Contents.{FitsPage, FitsCellRoom, FitsBlockRoom, ShowsPart, ShowsParts, ShowsCells, picture_with};
 
+use crate::head::head_row;
 use crate::line::{Drawn, Line};
 use crate::owners::Owners;
 use crate::paragraph::put_paragraph;
@@ -138,6 +139,7 @@ pub fn page_with(
             layout.heights.as_slice(),
         )?,
         owners: Owners::new(alloc, table)?,
+        head: head_row(table),
         cells,
     };
     draw(alloc, &drawing)

@@ -1,9 +1,10 @@
 //! The corners of a page: what is drawn where four slots meet.
 
 ghost use Rattle.std.specs.Prelude.{◌≡◌};
-ghost use Rattle.tl_page.specs.Corners.{is_same, is_one, sign, corner_sign};
+ghost use Rattle.tl_page.specs.Corners.{is_same, is_one, corner_sign};
 
 use crate::owner::Owner;
+use crate::sign::sign_of;
 use tl_base::Style;
 
 /// The owners of the four slots around a place of the page. Inside a row or a column two of the slots
@@ -26,16 +27,16 @@ impl Corner {
             && is_same(self.up_left, self.down_right)
     }
 
-    /// The character that is drawn: a side of the corner is drawn where the slots on both its sides
-    /// have different owners.
-    pub fn sign(&self, style: Style) -> u8
-        ensures { result ≡ corner_sign style self.now }
+    /// The character that is drawn, which may be on the line under the head: a side of the corner is
+    /// drawn where the slots on both its sides have different owners.
+    pub fn sign(&self, style: Style, under: bool) -> char
+        ensures { result ≡ corner_sign style under self.now }
     {
         let up = !is_same(self.up_left, self.up_right);
         let down = !is_same(self.down_left, self.down_right);
         let left = !is_same(self.up_left, self.down_left);
         let right = !is_same(self.up_right, self.down_right);
-        sign_of(style, up, down, left, right)
+        sign_of(style, under, up, down, left, right)
     }
 }
 
@@ -50,17 +51,5 @@ fn is_same(first: Owner, second: Owner) -> bool
         }
         (Owner::Cell(number), Owner::Cell(other)) => number == other,
         _ => false,
-    }
-}
-
-/// The character of a corner with these sides drawn.
-fn sign_of(style: Style, up: bool, down: bool, left: bool, right: bool) -> u8
-    ensures { result ≡ sign style up down left right }
-{
-    match (style, up, down, left, right) {
-        (Style::Plain | Style::Compact, _, _, _, _) => b' ',
-        (Style::Frame, true, true, false, false) => b'|',
-        (Style::Frame, false, false, true, true) => b'-',
-        (Style::Frame, _, _, _, _) => b'+',
     }
 }

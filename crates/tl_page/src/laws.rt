@@ -1,5 +1,10 @@
 //! Laws of the definitions in this crate's specs. Each is the contract of a function that does nothing.
-ghost use Rattle.tl_page.specs.Laws.{LinesAreAsWide, PagesAreAsHigh, PagesHoldAllText, ParagraphsAreWhole};
+ghost use Rattle.tl_page.specs.Laws.{LinesAreAsWide, PagesAreAsHigh, PagesHoldAllText, ParagraphsAreWhole, SignsTakeAColumn};
+
+/// Each character that the lines of a table are drawn with takes one column, by the measure of its words.
+pub fn signs_take_a_column()
+    ensures { SignsTakeAColumn }
+{}
 
 /// A page has as many lines as its layout is high.
 pub fn pages_are_as_high()

@@ -5,6 +5,9 @@
 
 mod cells;
 mod corner;
+mod head;
+#[cfg(test)]
+mod head_tests;
 mod laws;
 mod line;
 mod measure;
@@ -15,11 +18,22 @@ mod page_tests;
 mod pages;
 mod paragraph;
 mod picture;
+mod sign;
 mod strip;
 mod strips;
 #[cfg(test)]
 mod tests;
+mod trim;
+#[cfg(test)]
+mod trim_tests;
 
-pub use laws::{lines_are_as_wide, pages_are_as_high, pages_hold_all_text, paragraphs_are_whole};
+pub use laws::{
+    lines_are_as_wide, pages_are_as_high, pages_hold_all_text, paragraphs_are_whole,
+    signs_take_a_column,
+};
 pub use measure::fits;
 pub use pages::page;
+pub use trim::{
+    trimmed_lines_end_in_text, trimmed_lines_fill_up, trimmed_page, trimming_keeps_text,
+    trimming_takes_spaces,
+};

@@ -32,7 +32,7 @@ fn height_in(table: &Table, style: Style, width: u32, layout: &Layout) -> Option
     if widths.len() != table.cols as usize || heights.len() != table.rows as usize {
         return None;
     }
-    if total_size(style.gap(), style.edge(), widths) > u64::from(width) {
+    if total_size(style.gap(), style.edges(), widths) > u64::from(width) {
         return None;
     }
     let mut next = 0;
@@ -49,7 +49,7 @@ fn height_in(table: &Table, style: Style, width: u32, layout: &Layout) -> Option
     if next < layout.inner.len() {
         return None;
     }
-    Some(total_size(style.row_gap(), style.edge(), heights))
+    Some(total_size(style.row_gap(), style.edges(), heights))
 }
 
 /// The number of the layout after those of a cell in a room of `width` columns and `height` lines, of

@@ -13,7 +13,7 @@ use tl_token::tokens;
 use tl_tree::tree;
 
 /// The table of a file, if it has one.
-fn table_of(alloc: Global, file: &str, breaking: Breaking) -> Result<Option<Table>, AllocError>
+pub fn table_of(alloc: Global, file: &str, breaking: Breaking) -> Result<Option<Table>, AllocError>
     ensures { IfOk result (λ found. (table : Table) → found ≡ Some table → IsSound table) }
 {
     let bytes = file.as_bytes();
@@ -33,7 +33,7 @@ fn table_of(alloc: Global, file: &str, breaking: Breaking) -> Result<Option<Tabl
 }
 
 /// A layout with these columns and rows, without nested tables.
-fn layout(alloc: Global, widths: &[u32], heights: &[u32]) -> Result<Layout, AllocError> {
+pub(crate) fn layout(alloc: Global, widths: &[u32], heights: &[u32]) -> Result<Layout, AllocError> {
     let widths = List::from_slice(alloc, widths)?;
     let heights = List::from_slice(alloc, heights)?;
     Ok(Layout {
@@ -44,7 +44,7 @@ fn layout(alloc: Global, widths: &[u32], heights: &[u32]) -> Result<Layout, Allo
 }
 
 /// A layout with these columns and rows around that of a nested table.
-fn around(
+pub(crate) fn around(
     alloc: Global,
     widths: &[u32],
     heights: &[u32],
@@ -91,7 +91,7 @@ fn flat(
 }
 
 /// Compares the page of a file's table in a layout with a text.
-fn draws_in(
+pub(crate) fn draws_in(
     rt: &impl Abort,
     alloc: Global,
     file: &str,
@@ -109,7 +109,7 @@ fn draws_in(
 }
 
 /// Compares the page of a file's table without nested tables, with these columns and rows, with a text.
-fn draws(
+pub(crate) fn draws(
     rt: &impl Abort,
     alloc: Global,
     file: &str,

@@ -34,7 +34,7 @@ pub fn page(
 }
 
 /// Puts a line and a line feed after others.
-fn put_line(bytes: &mut List<u8>, line: &[u8]) -> Result<(), AllocError>
+pub fn put_line(bytes: &mut List<u8>, line: &[u8]) -> Result<(), AllocError>
     ensures { OnOk result (bytes.new ≡ bytes.old ++ (line.now ++ 0x0A ∷ [])) }
 {
     bytes.extend_from_slice(line)?;

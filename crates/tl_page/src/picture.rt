@@ -1,8 +1,9 @@
 //! Writes the lines of a picture, each from left to right.
 
-ghost use Rattle.std.specs.Prelude.{◌≡◌, ◌+◌, ◌++◌, replicate, slice_get, OnOk, IfOk, ◌&&◌, ◌==◌};
-ghost use Rattle.tl_page.specs.Corners.{corner_of};
-ghost use Rattle.tl_page.specs.Pictures.{filled, inside, inside_cell, piece, picture_line, strip_lines, lines_of};
+ghost use Rattle.std.specs.Prelude.{◌≡◌, ◌+◌, ◌++◌, slice_get, OnOk, IfOk, ◌&&◌, ◌==◌};
+ghost use Rattle.tl_page.specs.Corners.{corner_of, is_under};
+ghost use Rattle.tl_page.specs.Pictures.{filled, inside, inside_cell, piece, picture_line, spaces, strip_lines, lines_of};
+ghost use Rattle.tl_page.specs.Signs.{run};
 ghost use Rattle.tl_page.specs.inner.Drawing.{owner_in, shown};
 
 use crate::corner::Corner;
@@ -23,6 +24,8 @@ pub struct Drawing {
     pub down: List<Strip>,
     /// Who owns each slot.
     pub owners: Owners,
+    /// The last row of the head, counted from 1, if the line under it is drawn.
+    pub head: Option<u32>,
     /// The cells by their numbers.
     pub cells: List<Drawn>,
 }
@@ -39,14 +42,36 @@ fn corner_at(owners: &Owners, across: &Strip, down: &Strip) -> Corner
     }
 }
 
-/// Writes a character so many times.
-fn write_times(line: &mut List<u8>, character: u8, count: u64) -> Result<(), AllocError>
-    ensures { OnOk result (line.new ≡ line.old ++ replicate count character) }
+/// Writes so many spaces.
+fn write_spaces(line: &mut List<u8>, count: u64) -> Result<(), AllocError>
+    ensures { OnOk result (line.new ≡ line.old ++ spaces count) }
 {
     for _ in 0..count {
-        line.push(character)?;
+        line.push(b' ')?;
     }
     Ok(())
+}
+
+/// Writes the sign of a line of the table so many times.
+fn write_run(line: &mut List<u8>, sign: char, count: u64) -> Result<(), AllocError>
+    ensures { OnOk result (line.new ≡ line.old ++ run count sign) }
+{
+    let mut buffer = [0; 4];
+    let bytes = sign.encode_utf8(&mut buffer).as_bytes();
+    for _ in 0..count {
+        line.extend_from_slice(bytes)?;
+    }
+    Ok(())
+}
+
+/// Whether a strip of rows is the line under the head.
+fn is_under(head: Option<u32>, down: &Strip) -> bool
+    ensures { result ≡ is_under head down.now }
+{
+    match head {
+        Some(row) => down.before == row && row < down.after,
+        None => false,
+    }
 }
 
 /// Writes a line of content, filled with spaces to so many columns; spaces where there is none.
@@ -60,11 +85,11 @@ fn write_filled(
 {
     let columns = u64::from(columns);
     if place >= lines.len() as u64 {
-        return write_times(line, b' ', columns);
+        return write_spaces(line, columns);
     }
     let content = &lines[place as usize];
     line.extend_from_slice(content.text.as_slice())?;
-    write_times(line, b' ', columns.saturating_sub(content.width))
+    write_spaces(line, columns.saturating_sub(content.width))
 }
 
 /// Writes what stands inside a cell at a strip of columns: its line, at its first column.
@@ -94,7 +119,7 @@ fn write_inside(
     ensures { OnOk result (line.new ≡ line.old ++ inside cells.now owner across.now y) }
 {
     let Owner::Cell(number) = owner else {
-        return write_times(line, b' ', u64::from(across.size));
+        return write_spaces(line, u64::from(across.size));
     };
     if number >= cells.len() {
         return Ok(());
@@ -116,7 +141,8 @@ fn write_piece(
     if corner.is_one() {
         write_inside(line, drawing.cells.as_slice(), corner.up_left, across, y)
     } else {
-        write_times(line, corner.sign(drawing.style), u64::from(across.size))
+        let sign = corner.sign(drawing.style, is_under(drawing.head, down));
+        write_run(line, sign, u64::from(across.size))
     }
 }
 

@@ -89,7 +89,7 @@ pub fn room_in(strips: &[Strip], from: u32, past: u32) -> u32
 
 /// How much all slots take, with an edge on both sides.
 pub fn total_in(strips: &[Strip], edge: u32) -> u64
-    ensures { (gap : ℕ) → (sizes : List ℕ) → strips.now ≡ page_strips gap edge sizes → result ≡ total gap edge sizes }
+    ensures { (gap : ℕ) → (sizes : List ℕ) → strips.now ≡ page_strips gap edge sizes → result ≡ total gap (2 * edge) sizes }
 {
     if strips.is_empty() {
         return 0;

@@ -69,6 +69,7 @@ fn spans(alloc: Global, style: Style) -> Result<Drawing, AllocError> {
             rows: 4,
             slots: List::from_slice(alloc, &slots)?,
         },
+        head: None,
         cells: spanning_cells(alloc, style)?,
     })
 }

@@ -14,7 +14,7 @@ use Rattle.tl_table.specs.Sound.{places_of}
 use Rattle.tl_page.specs.declared.line.Drawn.{Drawn}
 use Rattle.tl_page.specs.declared.line.Line.{Line}
 use Rattle.tl_page.specs.Corners.{owner_of}
-use Rattle.tl_page.specs.Pages.{Content, ShowsBlock, ShowsCell, ShowsWithin, grid_of}
+use Rattle.tl_page.specs.Pages.{Content, ShowsBlock, ShowsCell, ShowsWithin, grid_of, head_row}
 use Rattle.tl_page.specs.Pictures.{Picture, drawn_cells}
 use Rattle.tl_page.specs.Strips.{strips}
 
@@ -84,5 +84,6 @@ picture_with style table layout cells = record {
   across = strips (gap_of style) (edge_of style) layout.widths;
   down = strips (row_gap_of style) (edge_of style) layout.heights;
   owner = owner_of (grid_of table);
+  head = head_row table;
   cells = cells;
 }

@@ -21,5 +21,6 @@ shown drawing = record {
   across = drawing.across;
   down = drawing.down;
   owner = owner_in drawing.owners;
+  head = drawing.head;
   cells = drawing.cells;
 }

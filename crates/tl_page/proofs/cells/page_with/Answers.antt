@@ -4,7 +4,7 @@ use Rattle.tl_base.specs.Style.{gap_of, row_gap_of, edge_of}
 use Rattle.tl_table.specs.declared.cell.Table.{out-Table}
 use Rattle.tl_table.specs.declared.layout.Layout.{out-Layout}
 use Rattle.tl_page.specs.Corners.{owner_of}
-use Rattle.tl_page.specs.Pages.{grid_of}
+use Rattle.tl_page.specs.Pages.{grid_of, head_row}
 use Rattle.tl_page.specs.Pictures.{lines_of}
 use Rattle.tl_page.specs.Strips.{strips}
 use Rattle.tl_page.specs.inner.Drawing.{owner_in}
@@ -34,12 +34,12 @@ returns c =
     subst (λ picture. IfOk c.draw.result (λ page. page ≡ lines_of picture))
     (same_picture style c.in_ok-strips.field-0 (strips (gap_of style) (edge_of style) layout.widths)
     c.in_ok-strips-2.field-0 (strips (row_gap_of style) (edge_of style) layout.heights) (owner_in c.in_ok-new.field-0)
-    (owner_of grid) c.args.cells
+    (owner_of grid) c.head_row.result (head_row (out-Table c.args.table.now)) c.args.cells
     (c.in_ok-strips.ensures ∙ same_strips c.gap.result (gap_of style) c.edge.result (edge_of style)
     c.as_slice.result.now layout.widths
     c.gap.ensures c.edge.ensures c.as_slice.ensures)
     (c.in_ok-strips-2.ensures ∙ same_strips c.row_gap.result (row_gap_of style) c.edge-2.result (edge_of style)
     c.as_slice-2.result.now layout.heights
     c.row_gap.ensures c.edge-2.ensures c.as_slice-2.ensures)
-    c.in_ok-new.ensures)
+    c.in_ok-new.ensures c.head_row.ensures)
     c.draw.ensures

@@ -1,6 +1,6 @@
 -- One more block, and one more cell, takes its lines and layouts; a nested table takes the next layout.
 use Rattle.std.proofs.Common.{◌≡◌, ◌∙◌, ◌+◌, ◌<◌, ◌≤◌, ℕ, List, Some, None, get_or, length, sym, ap, ap₂, subst, rules, arith}
-use Rattle.tl_base.specs.Style.{gap_of, row_gap_of, edge_of}
+use Rattle.tl_base.specs.Style.{gap_of, row_gap_of, edges_of}
 use Rattle.tl_base.specs.Sizes.{room, total}
 use Rattle.tl_base.proofs.SizeLaws.{room-total}
 use Rattle.tl_table.specs.declared.cell.Content.{out-Content, the_lemmas}
@@ -179,7 +179,7 @@ height_in-overflow_cast-columns t c =
     c.as_slice-cell-items.ensures c.cell-item.is) in
     let widths = c.as_slice-widths.result.now in
     let within : place.right ≤ length widths = omega (arith, placed.1, c.if-widths-table.false) in
-    let all = room-total c.gap.result c.edge.result widths place.left place.right placed.0 within in
+    let all = room-total c.gap.result c.edges.result widths place.left place.right placed.0 within in
     let gap : c.gap-in-loop-cell.result ≡ c.gap.result = c.gap-in-loop-cell.ensures ∙ sym c.gap.ensures in
     omega (
       arith,
@@ -271,13 +271,13 @@ height_in-returns-then-next-len-clause-takes t c =
 pub height_in-returns-clause-takes : goal.height_in-returns-clause-takes
 height_in-returns-clause-takes t c =
     let layout = out-Layout c.args.layout.now in
-    let width : c.total_size.result ≡ total (gap_of c.args.style) (edge_of c.args.style) layout.widths =
-    c.total_size.ensures.total ∙ ap₂ (λ (gap edge : ℕ). total gap edge c.as_slice-widths.result.now) c.gap.ensures c.edge.ensures
-    ∙ ap (total (gap_of c.args.style) (edge_of c.args.style)) c.as_slice-widths.ensures in
-    let height : c.total_size-2.result ≡ total (row_gap_of c.args.style) (edge_of c.args.style) layout.heights =
-    c.total_size-2.ensures.total ∙ ap₂ (λ (gap edge : ℕ). total gap edge c.as_slice-heights.result.now)
-    c.row_gap-2.ensures c.edge-2.ensures
-    ∙ ap (total (row_gap_of c.args.style) (edge_of c.args.style)) c.as_slice-heights.ensures in
+    let width : c.total_size.result ≡ total (gap_of c.args.style) (edges_of c.args.style) layout.widths =
+    c.total_size.ensures.total ∙ ap₂ (λ (gap edges : ℕ). total gap edges c.as_slice-widths.result.now) c.gap.ensures c.edges.ensures
+    ∙ ap (total (gap_of c.args.style) (edges_of c.args.style)) c.as_slice-widths.ensures in
+    let height : c.total_size-2.result ≡ total (row_gap_of c.args.style) (edges_of c.args.style) layout.heights =
+    c.total_size-2.ensures.total ∙ ap₂ (λ (gap edges : ℕ). total gap edges c.as_slice-heights.result.now)
+    c.row_gap-2.ensures c.edges-2.ensures
+    ∙ ap (total (row_gap_of c.args.style) (edges_of c.args.style)) c.as_slice-heights.ensures in
     subst (λ (height : ℕ). TakesTable c.args.style c.args.width c.args.table.now c.args.layout.now (Some height)) (sym height)
     (cells_taken-all c.args.style c.args.width c.args.table.now c.args.layout.now c.loop-cell.cell-index c.loop-cell.next
     (omega (arith, ap length c.as_slice-widths.ensures, c.if-widths-table.false))
@@ -299,3 +299,13 @@ height_in-returns-then-widths-table-clause-takes t c =
       | height_in-then-widths-table-via-else-widths-table+then-heights-table w ↦
           omega (arith, w.if-heights-table, fits.rows, ap length c.as_slice-heights.ensures)
     ])
+
+pub height_in-returns-then-total_size-from-clause-takes : goal.height_in-returns-then-total_size-from-clause-takes
+height_in-returns-then-total_size-from-clause-takes t c =
+    let width : c.total_size.result ≡ total (gap_of c.args.style) (edges_of c.args.style)
+    (out-Layout c.args.layout.now).widths =
+    c.total_size.ensures.total ∙ ap₂ (λ (gap edges : ℕ). total gap edges c.as_slice-widths.result.now) c.gap.ensures
+    c.edges.ensures
+    ∙ ap (total (gap_of c.args.style) (edges_of c.args.style)) c.as_slice-widths.ensures in
+    table-none c.args.style c.args.width c.args.table.now c.args.layout.now (λ level height fits.
+    omega (arith, width, c.if-total_size-from.true, c.from.ensures, fits.within))
