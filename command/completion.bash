@@ -5,7 +5,7 @@
 _tablelayout_options() {
     case $1 in
     show | lay | narrow | tidy | preview | check) echo --style --break --budget --workers --csv --head --least ;;&
-    show | lay | narrow | tidy | preview) echo --solver --html ;;&
+    show | lay | narrow | tidy | preview) echo --solver --trim --html ;;&
     show | lay | narrow | tidy | batch | preview) echo --progress ;;&
     show | page) echo --width ;;&
     show)
@@ -19,7 +19,7 @@ _tablelayout_options() {
 # Prints the words of which one follows an option.
 _tablelayout_values() {
     case $1 in
-    --style) echo plain compact frame ;;
+    --style) echo plain compact frame grid box ;;
     --break) echo words any fit ;;
     --solver) echo plain best learn rounds ;;
     esac

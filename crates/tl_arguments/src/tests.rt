@@ -56,6 +56,7 @@ const LINES: &[(&str, &str)] = &[
         "lay --progress 7 --csv --progress t p --style any",
         "lay 7 t p --csv --style any",
     ),
+    ("lay 7 --trim t --html p", "lay 7 t p --trim --html"),
     ("lay 7 t p -- --progress", "lay 7 t p ./--progress"),
     (
         "lay 7 t p --style --progress",
@@ -97,6 +98,18 @@ const WRONG: &[(&str, &str)] = &[
     (
         "lay 7 t p --style --progress",
         "option '--style' does not take '--progress'",
+    ),
+    (
+        "lay 7 t p --trimm",
+        "unknown option '--trimm': did you mean '--trim'?",
+    ),
+    (
+        "check 7 t c --trim",
+        "command 'check' does not take '--trim'",
+    ),
+    (
+        "lay 7 t p --style gird",
+        "option '--style' does not take 'gird'",
     ),
     (
         "lay 7 t p --progress --stile any",

@@ -27,10 +27,12 @@ nothing = record {
   csv = false;
   head = false;
   least = None;
+  trim = false;
   html = false;
 }
 
 gives_nothing : (choice : Choice) → IsGiven nothing choice → ⊥
+gives_nothing choices.Trim is = cc
 gives_nothing choices.Html is = cc
 gives_nothing choice is = cc
 
@@ -45,6 +47,7 @@ compact = record {
   csv = false;
   head = false;
   least = None;
+  trim = false;
   html = false;
 }
 

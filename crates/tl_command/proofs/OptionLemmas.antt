@@ -43,6 +43,8 @@ style_once : (one other : Style) → style_word one ≡ style_word other → one
 style_once styles.Plain styles.Plain e = refl
 style_once styles.Compact styles.Compact e = refl
 style_once styles.Frame styles.Frame e = refl
+style_once styles.Grid styles.Grid e = refl
+style_once styles.Box styles.Box e = refl
 style_once one other e = absurd (omega (arith, ap (λ (word : List ℕ). get_or word 0 0) e))
 
 -- a word with another character than a digit is no number
@@ -115,6 +117,7 @@ prefix_free (choices.Least floors) (choices.Least floors2) xs ys small tiny e =
       ap choices.Least (list_once floors floors2 small tiny (first-same (list_word floors) (list_word floors2) xs ys after)),
       rest-same (list_word floors) (list_word floors2) xs ys after,
     )
+prefix_free choices.Trim choices.Trim xs ys small tiny e = (refl, cc)
 prefix_free choices.Html choices.Html xs ys small tiny e = (refl, cc)
 prefix_free one other xs ys small tiny e = absurd (omega (arith, ap letters e))
 
@@ -258,8 +261,8 @@ option_same (Some x) other to from = sym (to x refl)
 
 rebuilt : (one other : Options) → one.style ≡ other.style → one.breaking ≡ other.breaking → one.budget ≡ other.budget →
     one.search ≡ other.search → one.workers ≡ other.workers → one.csv ≡ other.csv → one.head ≡ other.head →
-    one.least ≡ other.least → one.html ≡ other.html → one ≡ other
-rebuilt one other style breaking budget search workers csv head least html = λ i. record {
+    one.least ≡ other.least → one.trim ≡ other.trim → one.html ≡ other.html → one ≡ other
+rebuilt one other style breaking budget search workers csv head least trim html = λ i. record {
   style = style i;
   breaking = breaking i;
   budget = budget i;
@@ -268,6 +271,7 @@ rebuilt one other style breaking budget search workers csv head least html = λ 
   csv = csv i;
   head = head i;
   least = least i;
+  trim = trim i;
   html = html i;
 }
 
@@ -283,6 +287,7 @@ options_same one other to from =
     (same_test one.csv other.csv (to choices.Csv) (from choices.Csv))
     (same_test one.head other.head (to choices.Head) (from choices.Head))
     (option_same one.least other.least (λ x. to (choices.Least x)) (λ x. from (choices.Least x)))
+    (same_test one.trim other.trim (to choices.Trim) (from choices.Trim))
     (same_test one.html other.html (to choices.Html) (from choices.Html))
 
 -- the arguments spell no other options than those that were read from all of them

@@ -1,6 +1,6 @@
--- The options of a command: `--style plain|compact|frame`, `--break words|any|fit|N`, `--budget N`,
--- `--solver plain|best|learn|rounds`, `--workers K`, `--csv`, `--head`, `--least LIST` and `--html`, in any order, each at most
--- once, its value as the next argument.
+-- The options of a command: `--style plain|compact|frame|grid|box`, `--break words|any|fit|N`, `--budget N`,
+-- `--solver plain|best|learn|rounds`, `--workers K`, `--csv`, `--head`, `--least LIST`, `--trim` and `--html`, in any order,
+-- each at most once, its value as the next argument.
 use Rattle.std.specs.Prelude.{◌≡◌, ◌≢◌, ◌↔◌, ℕ, ◌≤◌, Bool, true, false, List, [], ◌∷◌, ◌++◌, length, drop, Some, IsTrue, Contains}
 use Rattle.std.specs.Prelude.{codes, decimal}
 use Rattle.std.specs.List.{All, AllPairs, flat_map}
@@ -52,6 +52,7 @@ name_of (choices.Workers workers) = codes "--workers"
 name_of choices.Csv = codes "--csv"
 name_of choices.Head = codes "--head"
 name_of (choices.Least floors) = codes "--least"
+name_of choices.Trim = codes "--trim"
 name_of choices.Html = codes "--html"
 
 -- the argument of its value, where it has one
@@ -64,6 +65,7 @@ values_of (choices.Workers workers) = decimal workers ∷ []
 values_of choices.Csv = []
 values_of choices.Head = []
 values_of (choices.Least floors) = list_word floors ∷ []
+values_of choices.Trim = []
 values_of choices.Html = []
 
 -- the arguments that spell an option
@@ -101,6 +103,7 @@ IsInRange (choices.Workers workers) = AreWorkers workers
 IsInRange choices.Csv = Unit {0}
 IsInRange choices.Head = Unit {0}
 IsInRange (choices.Least floors) = AreFloors floors
+IsInRange choices.Trim = Unit {0}
 IsInRange choices.Html = Unit {0}
 
 -- the command takes the option, with this value
@@ -118,6 +121,7 @@ IsGiven options (choices.Workers workers) = options.workers ≡ Some workers
 IsGiven options choices.Csv = options.csv ≡ true
 IsGiven options choices.Head = options.head ≡ true
 IsGiven options (choices.Least floors) = options.least ≡ Some floors
+IsGiven options choices.Trim = options.trim ≡ true
 IsGiven options choices.Html = options.html ≡ true
 
 -- ---- which are given together
@@ -132,6 +136,7 @@ speaks_of_csv (choices.Workers workers) = false
 speaks_of_csv choices.Csv = false
 speaks_of_csv choices.Head = true
 speaks_of_csv (choices.Least floors) = true
+speaks_of_csv choices.Trim = false
 speaks_of_csv choices.Html = false
 
 -- these are given with `--csv` alone

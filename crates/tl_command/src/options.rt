@@ -36,7 +36,7 @@ pub enum BreakRule {
 /// An option that is given.
 #[derive(Clone, Copy)]
 pub enum Choice {
-    /// `--style plain|compact|frame`.
+    /// `--style plain|compact|frame|grid|box`.
     Style(Style),
     /// `--break words|any|fit|N`, with N at most [`tl_base::MAX_PAGE_WIDTH`].
     Breaking(BreakRule),
@@ -52,6 +52,8 @@ pub enum Choice {
     Head,
     /// `--least LIST`, with LIST one number or more, and a comma between each two.
     Least(Floors),
+    /// `--trim`.
+    Trim,
     /// `--html`.
     Html,
 }
@@ -75,6 +77,8 @@ pub struct Options {
     pub head: bool,
     /// The least widths of the first columns of a CSV file.
     pub least: Option<Floors>,
+    /// Whether the lines of a page of text end without spaces.
+    pub trim: bool,
     /// Whether the page is HTML.
     pub html: bool,
 }
@@ -148,6 +152,7 @@ fn flag_named(name: &str) -> Option<Choice>
     match name {
         "--csv" => Some(Choice::Csv),
         "--head" => Some(Choice::Head),
+        "--trim" => Some(Choice::Trim),
         "--html" => Some(Choice::Html),
         _ => None,
     }
@@ -167,6 +172,7 @@ impl Options {
             csv: false,
             head: false,
             least: None,
+            trim: false,
             html: false,
         }
     }
@@ -185,6 +191,7 @@ impl Options {
             Choice::Csv => self.csv,
             Choice::Head => self.head,
             Choice::Least(_) => self.least.is_some(),
+            Choice::Trim => self.trim,
             Choice::Html => self.html,
         }
     }
@@ -204,6 +211,7 @@ impl Options {
             Choice::Csv => options.csv = true,
             Choice::Head => options.head = true,
             Choice::Least(floors) => options.least = Some(floors),
+            Choice::Trim => options.trim = true,
             Choice::Html => options.html = true,
         }
         options

@@ -21,6 +21,8 @@ pub(crate) fn style_named(value: &str) -> Option<Choice>
         "plain" => Some(Choice::Style(Style::Plain)),
         "compact" => Some(Choice::Style(Style::Compact)),
         "frame" => Some(Choice::Style(Style::Frame)),
+        "grid" => Some(Choice::Style(Style::Grid)),
+        "box" => Some(Choice::Style(Style::Box)),
         _ => None,
     }
 }

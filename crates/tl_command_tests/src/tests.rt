@@ -8,8 +8,8 @@ use tl_command::{Ask, BreakRule, Choice, Command, Options};
 use tl_floors::Floors;
 
 /// Command lines beside what they ask for: the command, the number, the names, and after `:` each
-/// option that is given, in the order style, breaks, budget, search, workers, CSV, head, least widths
-/// and HTML.
+/// option that is given, in the order style, breaks, budget, search, workers, CSV, head, least widths,
+/// trim and HTML.
 const ASKS: &[(&str, &str)] = &[
     ("lay 7 t.html p.txt", "lay 7 t.html p.txt :"),
     ("lay 1 t p c", "lay 1 t p c :"),
@@ -17,6 +17,9 @@ const ASKS: &[(&str, &str)] = &[
     ("lay 7 t p --style plain", "lay 7 t p : style=plain"),
     ("lay 7 t p --style compact", "lay 7 t p : style=compact"),
     ("lay 7 t p --style frame", "lay 7 t p : style=frame"),
+    ("lay 7 t p --style grid", "lay 7 t p : style=grid"),
+    ("lay 7 t p --style box", "lay 7 t p : style=box"),
+    ("check 7 t c --style box", "check 7 t c : style=box"),
     ("lay 7 t p --break words", "lay 7 t p : break=words"),
     ("lay 7 t p --break any", "lay 7 t p : break=any"),
     ("lay 7 t p --break fit", "lay 7 t p : break=fit"),
@@ -38,6 +41,13 @@ const ASKS: &[(&str, &str)] = &[
         "lay 7 t p --html --solver plain --budget 10 --break words --style compact",
         "lay 7 t p : style=compact break=words budget=10 solver=plain html",
     ),
+    ("lay 7 t p --trim", "lay 7 t p : trim"),
+    (
+        "lay 7 t p c --html --style grid --trim",
+        "lay 7 t p c : style=grid trim html",
+    ),
+    ("narrow 2 t p --trim --html", "narrow 2 t p : trim html"),
+    ("tidy 2 t p --trim --budget 1", "tidy 2 t p : budget=1 trim"),
     ("check 1 t c", "check 1 t c :"),
     (
         "check 500 t c --style compact",
@@ -212,6 +222,8 @@ const TWICE: &[&str] = &[
     "lay 7 t p --budget 1 --budget 2",
     "lay 7 t p --solver best --solver plain",
     "lay 7 t p --html --budget 5 --html",
+    "lay 7 t p --trim --trim",
+    "tidy 7 t p --trim --html --trim",
     "lay 7 t p --budget 5 --style frame --budget 5",
     "check 7 t c --budget 6 --budget 6",
     "lay 7 t p --csv --csv",
@@ -241,6 +253,9 @@ const VALUES: &[&str] = &[
     "lay 7 t p --style none",
     "lay 7 t p --style Plain",
     "lay 7 t p --style comp",
+    "lay 7 t p --style grids",
+    "lay 7 t p --style Box",
+    "lay 7 t p --style --trim",
     "lay 7 t p --style --html",
     "lay 7 t p --style=plain",
     "lay 7 t p --break",
@@ -270,6 +285,9 @@ const VALUES: &[&str] = &[
     "lay 7 t p --solver Best",
     "lay 7 t p --solver plain best",
     "lay 7 t p --html yes",
+    "lay 7 t p --trim yes",
+    "lay 7 t p --trimmed",
+    "lay 7 t p --TRIM",
     "lay 7 t p --HTML",
     "lay 7 t p --html -html",
     "lay 7 t p --",
@@ -312,10 +330,13 @@ const VALUES: &[&str] = &[
 /// An option that the command does not take.
 const NOT_TAKEN: &[&str] = &[
     "check 7 t c --html",
+    "check 7 t c --trim",
+    "check 7 t c --csv --trim",
     "check 7 t c --solver best",
     "check 7 t c --solver plain",
     "check 7 t c --budget 6 --html",
     "demo 0 --html",
+    "demo 0 --trim",
     "demo 0 --budget 6",
     "demo 0 --style plain",
     "demo 0 --break words",
@@ -353,6 +374,8 @@ fn style_word(style: Style) -> &'static str {
         Style::Plain => "plain",
         Style::Compact => "compact",
         Style::Frame => "frame",
+        Style::Grid => "grid",
+        Style::Box => "box",
     }
 }
 
@@ -434,6 +457,7 @@ fn push_options(alloc: Global, text: &mut String, options: &Options) -> Result<(
     push_flag(text, "csv", options.csv)?;
     push_flag(text, "head", options.head)?;
     push_least(alloc, text, &options.least)?;
+    push_flag(text, "trim", options.trim)?;
     push_flag(text, "html", options.html)
 }
 

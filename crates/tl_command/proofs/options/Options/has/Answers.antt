@@ -41,5 +41,8 @@ returns-in-Least-clause-yes c = λ is.
     let given = held c.args.self.now.least (sym c.is_some-in-Least.ensures ∙ is) in
     (choices.Least given.0, given.1, ap name_of (sym c.in-Least.is))
 
+pub returns-in-Trim-clause-yes : goal.returns-in-Trim-clause-yes
+returns-in-Trim-clause-yes c = λ is. (choices.Trim, is, ap name_of (sym c.in-Trim.is))
+
 pub returns-in-Html-clause-yes : goal.returns-in-Html-clause-yes
 returns-in-Html-clause-yes c = λ is. (choices.Html, is, ap name_of (sym c.in-Html.is))
