@@ -7,7 +7,7 @@ use Rattle.std.specs.List.{All}
 use Rattle.tl_nested.proofs.Written.{spaced_within}
 use Rattle.tl_base.specs.declared.limits.TheConstants.{MAX_BUDGET, MAX_PAGE_WIDTH}
 use Rattle.tl_base.specs.declared.style.Style.{Style}
-use Rattle.tl_base.specs.Style.{gap_of, edge_of}
+use Rattle.tl_base.specs.Style.{gap_of, edges_of}
 use Rattle.tl_base.proofs.SizeLaws.{sum-total}
 use Rattle.tl_base.proofs.Sums.{sum-within}
 use Rattle.tl_problem.specs.declared.placed.Placed.{Placed}
@@ -296,7 +296,7 @@ module _ (table : Table) (style : Style) (height width budget : ℕ) (sound : Is
                 (omega (arith, tight.placement.page.columns, (own no_section).sound.few_columns))
                 (spaced_within placed.widths (sum-within MAX_PAGE_WIDTH placed.widths (omega (
                   arith,
-                  sum-total (gap_of problem.style) (edge_of problem.style) placed.widths,
+                  sum-total problem.spacing.gap problem.spacing.edges placed.widths,
                   tight.placement.page.page,
                   problem_wide,
                   narrow,

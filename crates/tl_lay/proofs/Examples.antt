@@ -13,6 +13,7 @@ use Rattle.tl_page.specs.Standing.{HoldsAllText}
 use Rattle.tl_read.specs.declared.source.Source.TheVariants.{Html}
 use Rattle.tl_lay.specs.declared.answer.Answer.TheVariants as answers
 use Rattle.tl_lay.specs.declared.answer.Evidence.{Evidence}
+use Rattle.tl_lay.specs.declared.format.Format.TheVariants as formats
 use Rattle.tl_lay.specs.declared.task.Task.{Task}
 use Rattle.tl_lay.specs.Answers.{IsTextWanted, IsWholePage}
 use Rattle.tl_lay.specs.Budgets.{budget_of}
@@ -34,7 +35,7 @@ given : budget_of (Some 100000) 81 ≡ 100000
 given = refl
 
 -- an empty file is no page of a layout of one line
-no_line : (table : Table) (layout : Layout) → IsWholePage false styles.Plain Words table 1 layout [] → ⊥
+no_line : (table : Table) (layout : Layout) → IsWholePage formats.Text styles.Plain Words table 1 layout [] → ⊥
 no_line table layout whole = by_lines whole.0 whole.3 whole.4 where
   by_lines : (lines : List (List ℕ)) → length lines ≡ 1 → [] ≡ page_bytes lines → ⊥
   by_lines [] high same = omega (arith, high)
@@ -47,7 +48,7 @@ no_line table layout whole = by_lines whole.0 whole.3 whole.4 where
 
 -- the text of a page is that of the table, whole
 holds_text : (table : Table) (height : ℕ) (layout : Layout) (page : List ℕ) →
-    IsWholePage false styles.Frame Words table height layout page →
+    IsWholePage formats.Text styles.Frame Words table height layout page →
     (lines : List (List ℕ)) × HoldsAllText styles.Frame table layout lines × (page ≡ page_bytes lines)
 holds_text table height layout page whole = (whole.0, whole.2, whole.4)
 
@@ -66,7 +67,7 @@ seven = record {
   budget = None;
   search = Best;
   workers = 1;
-  html = false;
+  format = formats.Text;
   certified = true;
 }
 

@@ -60,7 +60,7 @@ module _ (task : Task) (table : Table) (sections : List Section) (are : sections
     (named : IsNamed table task.style (certificate_of task.width task.style (budget_in task table) sections) layout)
     (fits : (height : ℕ) → HasHeight (claim_of sections) height → Fits table task.style task.width height layout)
     (takes : taken ≡ total_width task.style (out-Layout layout))
-    (is_page : IsPageFile task.html task.style table layout page)
+    (is_page : IsPageFile task.format task.style table layout page)
     (is_text : IsTextWanted task.certified (Some (certificate_of task.width task.style (budget_in task table) sections)) text)
     (lowest_law : LowestIsLeast) (bounded_law : BoundedIsBetween) (closes_law : BudgetCloses) (spends_law : OpenSpends) where
   abbrev cert : Certificate

@@ -1,5 +1,5 @@
 -- What `lay` answers says that no page is lower.
-use Rattle.std.proofs.Common.{◌≡◌, inl, inr, ℕ, zero, suc, ◌≤◌, true, false, Bool, List, Option, refl, sym, ap, subst, ◌∙◌, arith}
+use Rattle.std.proofs.Common.{◌≡◌, inl, inr, ℕ, zero, suc, ◌≤◌, true, Bool, List, Option, refl, sym, ap, subst, ◌∙◌, arith}
 use Rattle.tl_base.specs.declared.breaking.Breaking.{Breaking}
 use Rattle.tl_base.specs.declared.limits.TheConstants.{MAX_REACH}
 use Rattle.tl_base.specs.declared.style.Style.{Style}
@@ -25,6 +25,8 @@ use Rattle.tl_read.specs.Reading.{IsReading, IsSoundReading, IsSpellableReading,
 use Rattle.tl_read.proofs.Readings.{table_within}
 use Rattle.tl_lay.specs.declared.answer.Answer.{Answer}
 use Rattle.tl_lay.specs.declared.answer.Answer.TheVariants as answers
+use Rattle.tl_lay.specs.declared.format.Format.{Format}
+use Rattle.tl_lay.specs.declared.format.Format.TheVariants as formats
 use Rattle.tl_lay.specs.declared.task.Task.{Task}
 use Rattle.tl_lay.specs.Answers.{Certifies, IsAnswered, IsReadBack, certificate_file, IsLaidAs, IsPageAt, IsPageFile, IsWholePage, IsWrittenNarrow}
 use Rattle.tl_lay.specs.Answers.{bounded_laid, lowest_laid, narrow_laid}
@@ -61,17 +63,24 @@ fits_high table style width height layout fits = by_depth fits.0 fits.1 where
   by_depth (suc depth) fits = fits.high
 
 -- a page of a sound table in a layout that fits has all its text
-whole_page : (html : Bool) (style : Style) (breaking : Breaking) (table : Table) (width height : ℕ) (layout : Layout)
+whole_page : (format : Format) (style : Style) (breaking : Breaking) (table : Table) (width height : ℕ) (layout : Layout)
     (page : List ℕ) → IsSound table → IsSpellable breaking table → Fits table style width height layout →
-    IsPageFile html style table layout page → IsWholePage html style breaking table height layout page
-whole_page false style breaking table width height layout page sound spellable fits (lines, is, same) = (
+    IsPageFile format style table layout page → IsWholePage format style breaking table height layout page
+whole_page formats.Text style breaking table width height layout page sound spellable fits (lines, is, same) = (
   lines,
   is,
   (is.0, (whole is.0 style table layout lines width height sound fits is.1).holds),
   as_high style table layout lines is ∙ fits_high table style width height layout fits,
   same,
 )
-whole_page true style breaking table width height layout page sound spellable fits (same, is) = (
+whole_page formats.Trimmed style breaking table width height layout page sound spellable fits (lines, is, same) = (
+  lines,
+  is,
+  (is.0, (whole is.0 style table layout lines width height sound fits is.1).holds),
+  as_high style table layout lines is ∙ fits_high table style width height layout fits,
+  same,
+)
+whole_page formats.Html style breaking table width height layout page sound spellable fits (same, is) = (
   is,
   reads_back table layout page is (sound_by breaking table sound spellable)
       (fitting_columns table style width height layout fits),
@@ -79,13 +88,13 @@ whole_page true style breaking table width height layout page sound spellable fi
 
 -- a page that is drawn is the whole page of the table
 pub page_of : (task : Task) (table : Table) (width height taken : ℕ) (layout : Layout) (page : List ℕ) → IsSound table →
-    IsSpellable (breaking_in task.source) table → IsPageAt task.html task.style table width height taken layout page →
+    IsSpellable (breaking_in task.source) table → IsPageAt task.format task.style table width height taken layout page →
     IsPageOf task table width height taken page
 page_of task table width height taken layout page sound spellable is = record {
   layout = layout;
   fits = is.fits;
   wide = is.wide;
-  whole = whole_page task.html task.style (breaking_in task.source) table width height layout page sound spellable is.fits is.is_page;
+  whole = whole_page task.format task.style (breaking_in task.source) table width height layout page sound spellable is.fits is.is_page;
 }
 
 -- ---- the certificate of a page that is too narrow

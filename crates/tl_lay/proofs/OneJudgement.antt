@@ -95,7 +95,7 @@ for_one_worker task = record {
   budget = task.budget;
   search = task.search;
   workers = 1;
-  html = task.html;
+  format = task.format;
   certified = task.certified;
 }
 

@@ -1,7 +1,7 @@
 -- Of a table in whose cells none is nested, `tidy` has one page, whatever search, budget and workers: the table has one problem on
 -- the narrowest page, this one chosen placement, which gives one layout, and that one page.
-use Rattle.std.proofs.Common.{◌≡◌, ◌∙◌, ◌⊎◌, inl, inr, ℕ, zero, suc, ◌+◌, ◌-◌, Bool, true, false, List, [], ◌∷◌, length, get_or, take, Option, Some}
-use Rattle.std.proofs.Common.{◌++◌, Contains, refl, sym, ap, ap₂, subst, arith}
+use Rattle.std.proofs.Common.{◌≡◌, ◌∙◌, ◌⊎◌, inl, inr, ℕ, zero, suc, ◌+◌, ◌-◌, List, [], ◌∷◌, length, get_or, take, Option, Some}
+use Rattle.std.proofs.Common.{◌++◌, Contains, refl, sym, ap, ap₂, map, subst, arith}
 use Rattle.std.specs.Prelude.{MatchOption}
 use Rattle.std.specs.List.{AllZip, flat_map}
 use Rattle.std.proofs.lemmas.List.Concat.{flat_map-cons}
@@ -36,10 +36,13 @@ use Rattle.tl_narrow.specs.SlimLaws.{MetIsSlimmest}
 use Rattle.tl_tidy.specs.Classes.{IsChosen}
 use Rattle.tl_tidy.proofs.NeedLaws.{chosen-unique}
 use Rattle.tl_page.specs.Pages.{IsPage, page_bytes}
+use Rattle.tl_page.specs.Trimmed as trims
 use Rattle.tl_html.specs.Html as html
 use Rattle.tl_lay.specs.declared.answer.Answer.{Answer}
 use Rattle.tl_lay.specs.declared.answer.Answer.TheVariants as answers
 use Rattle.tl_lay.specs.declared.answer.Evidence.{Evidence}
+use Rattle.tl_lay.specs.declared.format.Format.{Format}
+use Rattle.tl_lay.specs.declared.format.Format.TheVariants as formats
 use Rattle.tl_lay.specs.declared.task.Task.{Task}
 use Rattle.tl_lay.specs.declared.tidiest.Ending.{Ending}
 use Rattle.tl_lay.specs.Answers.{IsLaidAs, IsPageFile, bounded_laid, lowest_laid, narrow_laid}
@@ -114,18 +117,18 @@ no_parts Laid style layout (cell ∷ cells) (part ∷ parts) flat are =
 -- ---- the page
 
 -- the page of the chosen layout
-pub record IsChosenPage (html : Bool) (style : Style) (table : Table) (height width : ℕ) (page : List ℕ) : Type 0 where
+pub record IsChosenPage (format : Format) (style : Style) (table : Table) (height width : ℕ) (page : List ℕ) : Type 0 where
   pub problem : ProblemModel
   pub of : IsFlatProblem table style width problem
   pub placed : Placed
   pub chosen : IsChosen problem height placed
   pub layout : Layout
   pub laid : out-Layout layout ≡ layout_of placed
-  pub is_page : IsPageFile html style table layout page
+  pub is_page : IsPageFile format style table layout page
 
-one_chosen : (html : Bool) (style : Style) (table : Table) (height width : ℕ) (one other : List ℕ) → HasNoNested table →
-    IsChosenPage html style table height width one → IsChosenPage html style table height width other → one ≡ other
-one_chosen is_html style table height width one other flat is are = by_kind is_html is.is_page are.is_page where
+one_chosen : (format : Format) (style : Style) (table : Table) (height width : ℕ) (one other : List ℕ) → HasNoNested table →
+    IsChosenPage format style table height width one → IsChosenPage format style table height width other → one ≡ other
+one_chosen format style table height width one other flat is are = by_format format is.is_page are.is_page where
   problems : is.problem ≡ are.problem
   problems = one_flat table style width is.problem are.problem is.of are.of
 
@@ -137,11 +140,18 @@ one_chosen is_html style table height width one other flat is are = by_kind is_h
   same_layout = sym (roll-out-Layout is.layout)
       ∙ ap roll-Layout (is.laid ∙ ap layout_of placed ∙ sym are.laid) ∙ roll-out-Layout are.layout
 
-  by_kind : (kind : Bool) → IsPageFile kind style table is.layout one → IsPageFile kind style table are.layout other → one ≡ other
-  by_kind true (same, drawn) (also, shown) = same ∙ ap (html.html_bytes table) same_layout ∙ sym also
-  by_kind false (lines, drawn, same) (more, shown, also) =
-      same ∙ ap page_bytes (one_page style table are.layout lines more flat
-      (subst (λ (l : Layout). IsPage style table l lines) same_layout drawn) shown) ∙ sym also
+  same_lines : (lines more : List (List ℕ)) → IsPage style table is.layout lines → IsPage style table are.layout more →
+      lines ≡ more
+  same_lines lines more drawn shown = one_page style table are.layout lines more flat
+      (subst (λ (l : Layout). IsPage style table l lines) same_layout drawn) shown
+
+  by_format : (one_format : Format) → IsPageFile one_format style table is.layout one →
+      IsPageFile one_format style table are.layout other → one ≡ other
+  by_format formats.Text (lines, drawn, same) (more, shown, also) =
+      same ∙ ap page_bytes (same_lines lines more drawn shown) ∙ sym also
+  by_format formats.Trimmed (lines, drawn, same) (more, shown, also) =
+      same ∙ ap (λ (page : List (List ℕ)). page_bytes (map trims.trimmed page)) (same_lines lines more drawn shown) ∙ sym also
+  by_format formats.Html (same, drawn) (also, shown) = same ∙ ap (html.html_bytes table) same_layout ∙ sym also
 
 -- a certificate that keeps the chosen placement names its layout
 module _ (table : Table) (style : Style) (height width budget : ℕ) (sound : IsSound table) (flat : HasNoNested table)
@@ -224,7 +234,7 @@ module _ (table : Table) (style : Style) (height width budget : ℕ) (sound : Is
 -- ---- one answer
 
 -- the answer is that all was found: the least height, the narrowest page that is as low, and on it the page of the chosen layout
-pub record HasChosenPage (html : Bool) (style : Style) (table : Table) (most : ℕ) (answer : Answer) : Type 0 where
+pub record HasChosenPage (format : Format) (style : Style) (table : Table) (most : ℕ) (answer : Answer) : Type 0 where
   pub height : ℕ
   pub width : ℕ
   pub evidence : Evidence
@@ -233,7 +243,7 @@ pub record HasChosenPage (html : Bool) (style : Style) (table : Table) (most : �
   pub there : evidence.page ≡ Some page
   pub least : IsLeastHeight table style most height
   pub slimmest : IsSlimmestWidth table style height most width
-  pub is_page : IsChosenPage html style table height width page
+  pub is_page : IsChosenPage format style table height width page
 
 -- an answer of `tidy` with no such page: the height, the width or the choice is open, or the page is too narrow
 pub data IsUntidy : Answer → Type 0 where
@@ -252,7 +262,7 @@ early_untidy task table (narrow_laid is) early = too_narrow
 module _ (law : MetIsSlimmest) (task : Task) (table : Table) (sound : IsSound table) (flat : HasNoNested table) where
   -- one answer or the other
   abbrev Comes : Answer → Type 0
-  Comes answer = HasChosenPage task.html task.style table task.width answer ⊎ IsUntidy answer
+  Comes answer = HasChosenPage task.format task.style table task.width answer ⊎ IsUntidy answer
 
   module _ (answer : Answer) (trimmed : IsTrimmed task table answer) where
     -- what is told of a search: the page of the certificate that is kept, and that this is so low
@@ -321,8 +331,8 @@ one_slimmest table style height most one other is are =
     omega (arith, first, second)
 
 -- two such answers have the same numbers, and the same page
-module _ (html : Bool) (style : Style) (table : Table) (most : ℕ) (flat : HasNoNested table) (one other : Answer)
-    (first : HasChosenPage html style table most one) (second : HasChosenPage html style table most other) where
+module _ (format : Format) (style : Style) (table : Table) (most : ℕ) (flat : HasNoNested table) (one other : Answer)
+    (first : HasChosenPage format style table most one) (second : HasChosenPage format style table most other) where
   pub one_height : first.height ≡ second.height
   one_height = one_least table style most first.height second.height first.least second.least
 
@@ -331,6 +341,6 @@ module _ (html : Bool) (style : Style) (table : Table) (most : ℕ) (flat : HasN
       (subst (λ (h : ℕ). IsSlimmestWidth table style h most second.width) (sym one_height) second.slimmest)
 
   pub one_chosen_page : first.page ≡ second.page
-  one_chosen_page = one_chosen html style table first.height first.width first.page second.page flat first.is_page
-      (subst (λ (h : ℕ). IsChosenPage html style table h first.width second.page) (sym one_height)
-      (subst (λ (w : ℕ). IsChosenPage html style table second.height w second.page) (sym one_width) second.is_page))
+  one_chosen_page = one_chosen format style table first.height first.width first.page second.page flat first.is_page
+      (subst (λ (h : ℕ). IsChosenPage format style table h first.width second.page) (sym one_height)
+      (subst (λ (w : ℕ). IsChosenPage format style table second.height w second.page) (sym one_width) second.is_page))

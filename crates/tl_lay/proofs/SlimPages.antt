@@ -50,7 +50,7 @@ claimed_low height (Narrow least) low = absurd low
 -- the page of the layout is the page of the certificate
 pub drawn_low : (task : Task) (table : Table) (height width lines : ℕ) (certificate : Certificate) (layout : Layout)
     (result : Result (List ℕ) AllocError) → lines ≤ height → IsNamed table task.style certificate layout →
-    Fits table task.style width lines layout → IfOk result (IsPageFile task.html task.style table layout) →
+    Fits table task.style width lines layout → IfOk result (IsPageFile task.format task.style table layout) →
     IfOk result (IsSlimPage task table height width certificate)
 drawn_low task table height width lines certificate layout (Ok page) low named fits is_page = record {
   lines = lines;

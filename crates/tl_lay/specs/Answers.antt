@@ -1,5 +1,5 @@
 -- What a table on a page is answered with: its page and the text of a certificate.
-use Rattle.std.specs.Prelude.{◌≡◌, ℕ, ◌<◌, Bool, true, false, List, length, Option}
+use Rattle.std.specs.Prelude.{◌≡◌, ℕ, ◌<◌, Bool, true, false, List, length, map, Option}
 use Rattle.std.specs.Prelude.{Some, None}
 use Rattle.std.specs.List.{Any}
 use Rattle.tl_base.specs.declared.breaking.Breaking.{Breaking}
@@ -32,26 +32,32 @@ use Rattle.tl_nested.specs.Searched.{AreSectionsOf}
 use Rattle.tl_page.specs.Pages.{IsPage}
 use Rattle.tl_page.specs.Pages as pages
 use Rattle.tl_page.specs.Standing.{HoldsAllText}
+use Rattle.tl_page.specs.Trimmed.{IsTrimmedPage, trimmed}
 use Rattle.tl_lay.specs.declared.answer.Answer.{Answer}
 use Rattle.tl_lay.specs.declared.answer.Answer.TheVariants as answers
+use Rattle.tl_lay.specs.declared.format.Format.{Format}
+use Rattle.tl_lay.specs.declared.format.Format.TheVariants as formats
 use Rattle.tl_lay.specs.declared.task.Task.{Task}
 use Rattle.tl_lay.specs.Budgets.{budget_in, reach}
 use Rattle.tl_lay.specs.Inputs.{IsOfBytes}
 
 -- ---- the files
 
--- the file of the page: in text, or as HTML
-abbrev pub IsPageFile : Bool → Style → Table → Layout → List ℕ → Type 0
-IsPageFile true style table layout bytes = (bytes ≡ html.html_bytes table layout) × IsHtmlPage table layout bytes
-IsPageFile false style table layout bytes = (lines : List (List ℕ)) × IsPage style table layout lines
+-- the file of the page: in text, with or without the spaces at the ends of its lines, or as HTML
+abbrev pub IsPageFile : Format → Style → Table → Layout → List ℕ → Type 0
+IsPageFile formats.Text style table layout bytes = (lines : List (List ℕ)) × IsPage style table layout lines
     × (bytes ≡ pages.page_bytes lines)
+IsPageFile formats.Trimmed style table layout bytes = IsTrimmedPage style table layout bytes
+IsPageFile formats.Html style table layout bytes = (bytes ≡ html.html_bytes table layout) × IsHtmlPage table layout bytes
 
 -- a page of the table in a layout, with all its text: so many lines, on which each unit of each cell stands whole and in
--- order; or HTML, which spells the same table
-abbrev pub IsWholePage : Bool → Style → Breaking → Table → ℕ → Layout → List ℕ → Type 0
-IsWholePage false style breaking table height layout page = (lines : List (List ℕ)) × IsPage style table layout lines
+-- order, as they are or without the spaces at their ends; or HTML, which spells the same table
+abbrev pub IsWholePage : Format → Style → Breaking → Table → ℕ → Layout → List ℕ → Type 0
+IsWholePage formats.Text style breaking table height layout page = (lines : List (List ℕ)) × IsPage style table layout lines
     × HoldsAllText style table layout lines × (length lines ≡ height) × (page ≡ pages.page_bytes lines)
-IsWholePage true style breaking table height layout page = IsHtmlPage table layout page × SpellsAlike page breaking table
+IsWholePage formats.Trimmed style breaking table height layout page = (lines : List (List ℕ)) × IsPage style table layout lines
+    × HoldsAllText style table layout lines × (length lines ≡ height) × (page ≡ pages.page_bytes (map trimmed lines))
+IsWholePage formats.Html style breaking table height layout page = IsHtmlPage table layout page × SpellsAlike page breaking table
 
 -- the file of the certificate, where it is asked for
 abbrev pub certificate_file : Bool → Certificate → Option (List ℕ)
@@ -78,11 +84,11 @@ IsOutcomeOf kinds.Rounds workers budget problem outcome = IsRoundsOutcome worker
 
 -- the file is a page of the table: that of this layout, which fits a page of `width` columns, has so many lines and takes so
 -- many columns
-pub record IsPageAt (html : Bool) (style : Style) (table : Table) (width height taken : ℕ) (layout : Layout)
+pub record IsPageAt (format : Format) (style : Style) (table : Table) (width height taken : ℕ) (layout : Layout)
     (page : List ℕ) : Type 0 where
   pub fits : Fits table style width height layout
   pub wide : taken ≡ total_width style (out-Layout layout)
-  pub is_page : IsPageFile html style table layout page
+  pub is_page : IsPageFile format style table layout page
 
 -- the certificate claims this of the table on a page of `width` columns, and is valid for this budget
 pub record Certifies (table : Table) (style : Style) (width budget : ℕ) (claim : Claim) (certificate : Certificate) : Type 0 where
@@ -105,7 +111,7 @@ pub record IsWritten (task : Task) (table : Table) (width budget : ℕ) (claim :
   pub searched : AreSectionsOf (IsOutcomeOf task.search task.workers budget) table task.style width budget certificate.sections
   pub layout : Layout
   pub named : IsNamed table task.style certificate layout
-  pub is_page : IsPageAt task.html task.style table width height taken layout page
+  pub is_page : IsPageAt task.format task.style table width height taken layout page
   pub is_text : IsTextWanted task.certified (Some certificate) text
 
 -- no layout is lower than this page

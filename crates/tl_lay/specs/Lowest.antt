@@ -28,7 +28,7 @@ pub record IsPageOf (task : Task) (table : Table) (width height taken : ℕ) (pa
   pub layout : Layout
   pub fits : Fits table task.style width height layout
   pub wide : taken ≡ total_width task.style (out-Layout layout)
-  pub whole : IsWholePage task.html task.style (breaking_in task.source) table height layout page
+  pub whole : IsWholePage task.format task.style (breaking_in task.source) table height layout page
 
 -- no layout of the table that fits the page width has fewer lines than these
 abbrev pub HasNoneBelow : Task → Table → ℕ → Type 0

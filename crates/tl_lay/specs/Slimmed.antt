@@ -59,7 +59,7 @@ pub record IsSlimPage (task : Task) (table : Table) (height width : ℕ) (certif
   pub layout : Layout
   pub named : IsNamed table task.style certificate layout
   pub fits : Fits table task.style width lines layout
-  pub is_page : IsPageFile task.html task.style table layout page
+  pub is_page : IsPageFile task.format task.style table layout page
 
 -- the page of the certificate that was kept, where there is one
 abbrev pub IsPageOfKept : Task → Table → ℕ → ℕ → Option Certificate → Option (List ℕ) → Type 0

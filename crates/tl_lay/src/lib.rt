@@ -6,6 +6,7 @@
 
 mod answer;
 mod budget;
+mod format;
 mod input;
 mod judge;
 mod laws;
@@ -21,6 +22,7 @@ mod verdict;
 mod widths;
 
 pub use answer::{Answer, Evidence};
+pub use format::Format;
 pub use input::{Given, Input, read_input};
 pub use judge::{check, judge_text};
 pub use laws::{laid_is_lowest, narrowed_is_narrowest, tidied_is_tidiest};

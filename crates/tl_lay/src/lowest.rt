@@ -17,6 +17,7 @@ ghost use Rattle.tl_lay.specs.inner.Certified.{IsFound};
 ghost use Rattle.tl_lay.specs.inner.Files.{IsFileBy};
 
 use crate::answer::Answer;
+use crate::format::Format;
 use crate::input::{Given, Input, read_input};
 use crate::laws::laid_is_lowest;
 use crate::makers::searched;
@@ -34,7 +35,7 @@ use tl_form::{
 use tl_html::html;
 use tl_narrow::{certificate_of, narrow_certificate};
 use tl_nested::LaidSections;
-use tl_page::page;
+use tl_page::{page, trimmed_page};
 use tl_problem::Placed;
 use tl_solve::Watcher;
 use tl_table::{Layout, Table};
@@ -227,7 +228,7 @@ fn files<R: Threads + Sync, G: Gate + Watcher>(
     requires fits { (width height : ℕ) × (width ≤ MAX_PAGE_WIDTH) × (height ≤ MAX_HEIGHT)
         × Fits table.now task.now.style width height layout.now }
     requires readable { IsReadable certificate.now }
-    ensures page { IfOk result (λ files. IsPageFile task.now.html task.now.style table.now layout.now files.0) }
+    ensures page { IfOk result (λ files. IsPageFile task.now.format task.now.style table.now layout.now files.0) }
     ensures certificate { IfOk result (λ files. files.1 ≡ certificate_file task.now.certified certificate.now) }
 {
     let alloc = run.alloc;
@@ -243,13 +244,13 @@ fn files<R: Threads + Sync, G: Gate + Watcher>(
     let drawn = || -> Result<List<u8>, AllocError>
         requires { IsSound table.now × ((width height : ℕ) × (width ≤ MAX_PAGE_WIDTH) × (height ≤ MAX_HEIGHT)
             × Fits table.now task.now.style width height layout.now) }
-        ensures { IfOk result (IsPageFile task.entry.now.html task.entry.now.style table.entry.now layout.entry.now) }
+        ensures { IfOk result (IsPageFile task.entry.now.format task.entry.now.style table.entry.now layout.entry.now) }
     { page_file(alloc, task, table, layout) };
     let (text, page) = thread::join(run.rt, certified, drawn);
     Ok((page?, text?))
 }
 
-/// The page of the table in the layout: in text, or as HTML.
+/// The page of the table in the layout, by the format of the task.
 pub fn page_file(
     alloc: Global,
     task: &Task,
@@ -259,12 +260,12 @@ pub fn page_file(
     requires sound { IsSound table.now }
     requires fits { (width height : ℕ) × (width ≤ MAX_PAGE_WIDTH) × (height ≤ MAX_HEIGHT)
         × Fits table.now task.now.style width height layout.now }
-    ensures { IfOk result (IsPageFile task.now.html task.now.style table.now layout.now) }
+    ensures { IfOk result (IsPageFile task.now.format task.now.style table.now layout.now) }
 {
-    if task.html {
-        html(alloc, table, layout)
-    } else {
-        page(alloc, table, task.style, layout)
+    match task.format {
+        Format::Text => page(alloc, table, task.style, layout),
+        Format::Trimmed => trimmed_page(alloc, table, task.style, layout),
+        Format::Html => html(alloc, table, layout),
     }
 }
 

@@ -14,6 +14,7 @@ ghost use Rattle.tl_lay.specs.Demonstration.{IsDemonstrated, IsSummaryOf};
 ghost use Rattle.tl_read.specs.Reading.{IsReading};
 ghost use Rattle.tl_lay.specs.inner.Summaries.{demo_task, HasOwnNext, IsCountAfter};
 
+use crate::format::Format;
 use crate::limits::DEMO_BUDGET;
 use crate::makers::searched;
 use crate::task::Task;
@@ -57,7 +58,7 @@ fn task() -> Task
         budget: Some(DEMO_BUDGET),
         search: Search::Best,
         workers: 1,
-        html: false,
+        format: Format::Text,
         certified: true,
     }
 }

@@ -2,6 +2,7 @@
 
 ghost use Rattle.std.specs.Prelude.{◌≡◌, ◌≤◌};
 
+use crate::format::Format;
 use std::alloc::Global;
 use tl_base::{Search, Style};
 use tl_fan::Run;
@@ -20,8 +21,8 @@ pub struct Task {
     pub search: Search,
     /// How many workers there are, from 1 to `MAX_WORKERS`.
     pub workers: u32,
-    /// Whether the page is HTML.
-    pub html: bool,
+    /// How the page is written.
+    pub format: Format,
     /// Whether texts of certificates are wanted.
     pub certified: bool,
 }

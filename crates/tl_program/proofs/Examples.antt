@@ -10,6 +10,7 @@ use Rattle.tl_lay.specs.declared.rejection.Rejection.TheVariants as rejections
 use Rattle.tl_program.specs.declared.report.Report.TheVariants as reports
 use Rattle.tl_lay.specs.declared.answer.Answer.{Answer}
 use Rattle.tl_lay.specs.declared.answer.Answer.TheVariants as answers
+use Rattle.tl_lay.specs.declared.format.Format.TheVariants as formats
 use Rattle.tl_command.specs.declared.command.Command.{Command}
 use Rattle.tl_command.specs.declared.command.Command.TheVariants.{Lay, Narrow, Check}
 use Rattle.tl_command.specs.declared.options.Options.{Options}
@@ -20,7 +21,7 @@ use Rattle.tl_program.specs.Messages.{status_number, status_of, message_of, mess
 use Rattle.tl_program.specs.Settled.{widest_page, with_rule}
 use Rattle.tl_program.specs.Deliveries.{delivery_of}
 use Rattle.tl_program.specs.Reports.{report_of}
-use Rattle.tl_program.specs.Tasks.{task_of}
+use Rattle.tl_program.specs.Tasks.{format_by, task_of}
 
 -- statuses
 bounded : status_number (status_of (reports.Bounded 3 2 7)) ≡ 3
@@ -48,6 +49,7 @@ no_options = record {
   csv = false;
   head = false;
   least = None;
+  trim = false;
   html = false;
 }
 
@@ -121,6 +123,7 @@ lay_csv = record {
     csv = true;
     head = true;
     least = Some (5 ∷ []);
+    trim = false;
     html = false;
   };
 }
@@ -130,6 +133,16 @@ csv_source = refl
 
 html_source : (task_of lay_three).source ≡ Html Words
 html_source = refl
+
+-- a page is text with the spaces at the ends of its lines, unless `--trim` or `--html` is given; with both it is HTML
+as_laid : (task_of lay_three).format ≡ formats.Text
+as_laid = refl
+
+without_spaces : format_by true false ≡ formats.Trimmed
+without_spaces = refl
+
+html_alone : format_by true true ≡ format_by false true
+html_alone = refl
 
 -- the message of a record with another number of fields
 uneven : message_of (reports.Refused (refusals.BadRecord records.Uneven 1)) ≡

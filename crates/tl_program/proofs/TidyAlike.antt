@@ -27,7 +27,7 @@ use Rattle.tl_program.specs.Deliveries.{Delivery, IsAnswered, texts_of}
 use Rattle.tl_program.specs.Headline.{Ends}
 use Rattle.tl_program.specs.Messages.{message_of, status_number, status_of}
 use Rattle.tl_program.specs.Reports.{report_of}
-use Rattle.tl_program.specs.Tasks.{source_of, style_of, task_of}
+use Rattle.tl_program.specs.Tasks.{format_of, source_of, style_of, task_of}
 use Rattle.tl_program.proofs.Asking.{names_asked}
 use Rattle.tl_program.proofs.Ends.{same_bytes}
 use Rattle.tl_program.proofs.NamedFiles.{page_there}
@@ -45,7 +45,7 @@ untidy_apart too_narrow nought = omega (arith, nought)
 -- the page of the chosen layout is stored, and its numbers are printed
 record StoresChosen (asked : Asked) (change : Change) (table : Table) : Type 0 where
   answer : Answer
-  chosen : HasChosenPage asked.options.html (style_of asked) table asked.number answer
+  chosen : HasChosenPage (format_of asked) (style_of asked) table asked.number answer
   stored : Holds change.files_after (page_name asked) chosen.page
   prints : change.said_after ≡ longer change.said (message_of (report_of answer))
 
@@ -65,7 +65,7 @@ module _ (law : MetIsSlimmest) (words : List (List ℕ)) (change : Change) (stat
   own : IsAnswered (IsTidiedAs (task_of asked)) asked table went.delivery
   own = subst (λ (t : Table). IsAnswered (IsTidiedAs (task_of asked)) asked t went.delivery) table_read went.run.own
 
-  chosen : HasChosenPage asked.options.html (style_of asked) table asked.number own.answer
+  chosen : HasChosenPage (format_of asked) (style_of asked) table asked.number own.answer
   chosen = elim (chosen_or_untidy law (task_of asked) table (subst IsSound table_read went.run.sound) flat own.answer own.is) [
     | inl page ↦ page
     | inr untidy ↦ absurd (untidy_apart untidy
@@ -92,14 +92,14 @@ module _ (asked : Asked) (before change : Change) (table : Table) (flat : HasNoN
   same_report : report_of first.answer ≡ report_of second.answer
   same_report = ap (λ (a : Answer). report_of a) first.chosen.so
       ∙ ap₂ (λ (height width : ℕ). reports.Tidy height width)
-      (one_height asked.options.html (style_of asked) table asked.number flat first.answer second.answer first.chosen second.chosen)
-      (one_width asked.options.html (style_of asked) table asked.number flat first.answer second.answer first.chosen second.chosen)
+      (one_height (format_of asked) (style_of asked) table asked.number flat first.answer second.answer first.chosen second.chosen)
+      (one_width (format_of asked) (style_of asked) table asked.number flat first.answer second.answer first.chosen second.chosen)
       ∙ sym (ap (λ (a : Answer). report_of a) second.chosen.so)
 
   -- and so is the page
   stored_first : Holds before.files_after (page_name asked) second.chosen.page
   stored_first = subst (λ (page : List ℕ). Holds before.files_after (page_name asked) page)
-      (one_chosen_page asked.options.html (style_of asked) table asked.number flat first.answer second.answer first.chosen
+      (one_chosen_page (format_of asked) (style_of asked) table asked.number flat first.answer second.answer first.chosen
       second.chosen) first.stored
 
   print_alike : PrintAlike before change

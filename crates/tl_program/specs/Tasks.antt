@@ -12,6 +12,8 @@ use Rattle.tl_command.specs.declared.options.BreakRule.{BreakRule}
 use Rattle.tl_command.specs.declared.options.BreakRule.TheVariants as rules
 use Rattle.tl_read.specs.declared.source.Source.{Source}
 use Rattle.tl_read.specs.declared.source.Source.TheVariants.{Html, Csv}
+use Rattle.tl_lay.specs.declared.format.Format.{Format}
+use Rattle.tl_lay.specs.declared.format.Format.TheVariants as formats
 use Rattle.tl_lay.specs.declared.task.Task.{Task}
 use Rattle.tl_program.specs.Asks.{certificate_name}
 
@@ -43,6 +45,16 @@ source_by false head floors breaking = Html breaking
 abbrev pub source_of : Asked → Source
 source_of asked = source_by asked.options.csv asked.options.head (given_or [] asked.options.least) (breaking_of asked)
 
+-- how the page is written: as HTML, of which no space can be left out, or else as text, with or without the spaces at the ends
+-- of its lines
+abbrev pub format_by : Bool → Bool → Format
+format_by trim true = formats.Html
+format_by true false = formats.Trimmed
+format_by false false = formats.Text
+
+abbrev pub format_of : Asked → Format
+format_of asked = format_by asked.options.trim asked.options.html
+
 -- what is asked of the table, for pages of so many columns at most
 abbrev pub task_on : ℕ → Asked → Task
 task_on width asked = record {
@@ -52,7 +64,7 @@ task_on width asked = record {
   budget = asked.options.budget;
   search = given_or searches.Best asked.options.search;
   workers = given_or 1 asked.options.workers;
-  html = asked.options.html;
+  format = format_of asked;
   certified = is_some (certificate_name asked);
 }
 

@@ -3,13 +3,13 @@
 ghost use Rattle.std.specs.Prelude.{◌≡◌, []};
 ghost use Rattle.tl_command.specs.Ask.{asked_by};
 ghost use Rattle.tl_command.specs.declared.options.BreakRule.TheVariants as rules;
-ghost use Rattle.tl_program.specs.Tasks.{breaking_by, given_or, source_by, task_of, task_on};
+ghost use Rattle.tl_program.specs.Tasks.{breaking_by, format_by, given_or, source_by, task_of, task_on};
 
 use crate::names::certificate_name;
 use tl_base::{Breaking, Search, Style};
 use tl_command::{Ask, BreakRule, Options};
 use tl_floors::Floors;
-use tl_lay::Task;
+use tl_lay::{Format, Task};
 use tl_read::Source;
 
 /// How paragraphs are broken into lines where these words may break; they are whole before it is found which may.
@@ -41,6 +41,19 @@ fn source_of(options: &Options) -> Source
     }
 }
 
+/// How the page is written. HTML has no spaces to be left out.
+fn format_of(options: &Options) -> Format
+    ensures { result ≡ format_by options.now.trim options.now.html }
+{
+    if options.html {
+        Format::Html
+    } else if options.trim {
+        Format::Trimmed
+    } else {
+        Format::Text
+    }
+}
+
 /// What is asked of a table: the number is the width of its page.
 pub fn task_of(ask: &Ask<'_>) -> Task
     ensures { result ≡ task_of (asked_by ask.now) }
@@ -60,7 +73,7 @@ pub fn task_on(ask: &Ask<'_>, width: u32) -> Task
         budget: options.budget,
         search: options.search.unwrap_or(Search::Best),
         workers: options.workers.unwrap_or(1),
-        html: options.html,
+        format: format_of(options),
         certified: certificate_name(ask).is_some(),
     }
 }

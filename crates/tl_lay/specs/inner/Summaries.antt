@@ -12,6 +12,7 @@ use Rattle.tl_problem.specs.Problem.{ProblemModel}
 use Rattle.tl_problem.specs.Spans.{count_of}
 use Rattle.tl_lay.specs.declared.limits.TheConstants.{DEMO_BUDGET}
 use Rattle.tl_base.specs.declared.search.Search.TheVariants.{Best}
+use Rattle.tl_lay.specs.declared.format.Format.TheVariants.{Text}
 use Rattle.tl_lay.specs.declared.task.Task.{Task}
 
 -- what is asked of the table of a demonstration
@@ -23,7 +24,7 @@ demo_task = record {
   budget = Some DEMO_BUDGET;
   search = Best;
   workers = 1;
-  html = false;
+  format = Text;
   certified = true;
 }
 

@@ -1,4 +1,4 @@
-//! Pages in a frame, broken inside words, and as HTML, each worked by hand.
+//! Pages in a frame, with a head, trimmed, broken inside words, and as HTML, each worked by hand.
 
 use crate::tests::{Case, ONE, SPANNED, TWO, check};
 use std::test::Fail;
@@ -52,6 +52,105 @@ const FRAMES: &[Case<'static>] = &[
 #[test]
 fn a_frame_is_drawn(rt: HostRuntime) -> Result<(), Fail> {
     for case in FRAMES {
+        check(&rt, case)?;
+    }
+    Ok(())
+}
+
+/// A table of two rows, the first in a `thead`.
+const HEADED: &str = "<table><thead><tr><th>ab<th>c<tbody><tr><td>d<td>ee</table>";
+
+/// A table with a caption and a head over two columns.
+const TITLED: &str = "<table><caption>cap<tr><th colspan=2>abc<tr><td>x<td>y<tr><td>z<td></table>";
+
+/// In styles grid and box the line under the head differs: between the first rows, which are of header cells
+/// or in a `thead`, and the others.
+const HEADS: &[Case<'static>] = &[
+    Case {
+        line: "lay 12 t.html p.txt --style grid",
+        file: HEADED,
+        status: 0,
+        page: Some("+--+--+\n|ab|c |\n+==+==+\n|d |ee|\n+--+--+\n"),
+        certificate: None,
+        message: "lowest height 5 width 7\n",
+    },
+    Case {
+        line: "lay 12 t.html p.txt --style box",
+        file: HEADED,
+        status: 0,
+        page: Some("┌──┬──┐\n│ab│c │\n╞══╪══╡\n│d │ee│\n└──┴──┘\n"),
+        certificate: None,
+        message: "lowest height 5 width 7\n",
+    },
+    Case {
+        line: "lay 5 t.html p.txt --style grid",
+        file: TITLED,
+        status: 0,
+        page: Some("+---+\n|cap|\n+---+\n|abc|\n+=+=+\n|x|y|\n+-+-+\n|z| |\n+-+-+\n"),
+        certificate: None,
+        message: "lowest height 9 width 5\n",
+    },
+    Case {
+        line: "lay 5 t.html p.txt --style box",
+        file: TITLED,
+        status: 0,
+        page: Some("┌───┐\n│cap│\n├───┤\n│abc│\n╞═╤═╡\n│x│y│\n├─┼─┤\n│z│ │\n└─┴─┘\n"),
+        certificate: None,
+        message: "lowest height 9 width 5\n",
+    },
+    Case {
+        line: "lay 12 t.html p.txt --style grid",
+        file: TWO,
+        status: 0,
+        page: Some("+---+-----+\n|aaa|cc dd|\n|bbb|ee   |\n+---+-----+\n"),
+        certificate: None,
+        message: "lowest height 4 width 11\n",
+    },
+    Case {
+        line: "lay 80 t.html p.txt --csv --head --style grid",
+        file: "a,b\nccc,d\n",
+        status: 0,
+        page: Some("+---+-+\n|a  |b|\n+===+=+\n|ccc|d|\n+---+-+\n"),
+        certificate: None,
+        message: "lowest height 5 width 7\n",
+    },
+    Case {
+        line: "lay 80 t.html p.txt --csv --style box",
+        file: "a,b\nccc,d\n",
+        status: 0,
+        page: Some("┌───┬─┐\n│a  │b│\n├───┼─┤\n│ccc│d│\n└───┴─┘\n"),
+        certificate: None,
+        message: "lowest height 5 width 7\n",
+    },
+    Case {
+        line: "lay 10 t.html p.txt --style box",
+        file: "<table></table>",
+        status: 0,
+        page: Some(""),
+        certificate: None,
+        message: "lowest height 0 width 0\n",
+    },
+    Case {
+        line: "lay 4 t.html p.txt c.txt --style grid",
+        file: "<table><tr><th>ab<th>c</table>",
+        status: 4,
+        page: None,
+        certificate: Some("tablelayout 1 4 grid 5000\nnarrow 6\nchain 0 0 1\nend\n"),
+        message: "narrow least 6 width 4\n",
+    },
+    Case {
+        line: "lay 5 t.html p.txt c.txt --style box",
+        file: "<table><tr><th>ab<th>c</table>",
+        status: 4,
+        page: None,
+        certificate: Some("tablelayout 1 5 box 5000\nnarrow 6\nchain 0 0 1\nend\n"),
+        message: "narrow least 6 width 5\n",
+    },
+];
+
+#[test]
+fn the_line_under_the_head_is_drawn_in_grid_and_box(rt: HostRuntime) -> Result<(), Fail> {
+    for case in HEADS {
         check(&rt, case)?;
     }
     Ok(())
@@ -217,6 +316,77 @@ const MARKUP: &[Case<'static>] = &[
 #[test]
 fn an_html_page_is_stored(rt: HostRuntime) -> Result<(), Fail> {
     for case in MARKUP {
+        check(&rt, case)?;
+    }
+    Ok(())
+}
+
+/// With `--trim` lines end without spaces. Nothing else changes: neither the layout nor the numbers.
+const TRIMMED: &[Case<'static>] = &[
+    Case {
+        line: "lay 10 t.html p.txt --trim",
+        file: TWO,
+        status: 0,
+        page: Some("aaa  cc dd\nbbb  ee\n"),
+        certificate: None,
+        message: "lowest height 2 width 10\n",
+    },
+    Case {
+        line: "narrow 3 t.html p.txt --trim --style compact",
+        file: TWO,
+        status: 0,
+        page: Some("aaa cc\nbbb dd\n    ee\n"),
+        certificate: None,
+        message: "slimmest width 6 height 3\n",
+    },
+    Case {
+        line: "tidy 20 t.html p.txt --trim",
+        file: "<table><tr><td>aa<td>bbb<tr><td>c<td>d<tr><td>ee</table>",
+        status: 0,
+        page: Some("aa  bbb\nc   d\nee\n"),
+        certificate: None,
+        message: "tidy height 3 width 7\n",
+    },
+    Case {
+        line: "lay 7 t.html p.txt --trim --style compact",
+        file: "<table><tr><td>a<td rowspan=2>b c<tr><td><tr><td>d<td>e</table>",
+        status: 0,
+        page: Some("a b c\nd e\n"),
+        certificate: None,
+        message: "lowest height 2 width 5\n",
+    },
+    Case {
+        line: "lay 12 t.html p.txt --trim --style frame",
+        file: TWO,
+        status: 0,
+        page: Some("+---+-----+\n|aaa|cc dd|\n|bbb|ee   |\n+---+-----+\n"),
+        certificate: None,
+        message: "lowest height 4 width 11\n",
+    },
+    Case {
+        line: "lay 10 t.html p.txt --trim --html",
+        file: TWO,
+        status: 0,
+        page: Some(
+            "<table>\n<colgroup><col style=\"width:3ch\"><col style=\"width:5ch\"></colgroup>\n\
+             <tr><td><p>aaa bbb</p></td><td><p>cc dd ee</p></td></tr>\n</table>\n",
+        ),
+        certificate: None,
+        message: "lowest height 2 width 10\n",
+    },
+    Case {
+        line: "lay 4 t.html p.txt c.txt --trim",
+        file: SPANNED,
+        status: 4,
+        page: None,
+        certificate: Some("tablelayout 1 4 plain 5000\nnarrow 5\nchain 0 1 2\nend\n"),
+        message: "narrow least 5 width 4\n",
+    },
+];
+
+#[test]
+fn a_trimmed_page_is_stored(rt: HostRuntime) -> Result<(), Fail> {
+    for case in TRIMMED {
         check(&rt, case)?;
     }
     Ok(())

@@ -2,7 +2,7 @@
 use Rattle.std.proofs.Common.{◌≡◌, ◌≤◌, ℕ, List, length, Some, None, sym, ap, subst, ◌∙◌}
 use Rattle.std.specs.List.{last_or}
 use Rattle.tl_base.specs.declared.limits.TheConstants.{MAX_COLUMNS}
-use Rattle.tl_base.specs.Style.{gap_of, edge_of}
+use Rattle.tl_base.specs.Style.{gap_of, edges_of}
 use Rattle.tl_base.specs.Sizes.{total}
 use Rattle.tl_lay.specs.Checks.{page_columns}
 use Rattle.tl_lay.specs.inner.Claims.{HasFewColumns}
@@ -19,5 +19,5 @@ pub returns-in-Some : goal.returns-in-Some
 returns-in-Some c =
     let is : last_or None c.args.sections.now ≡ Some c.in-Some.last.now =
     last_got c.args.sections.now c.in-Some.last.now (sym c.in-Some.ensures.value) in
-    c.total_width.ensures ∙ ap (total (gap_of c.args.style) (edge_of c.args.style)) c.as_slice.ensures ∙ sym
+    c.total_width.ensures ∙ ap (total (gap_of c.args.style) (edges_of c.args.style)) c.as_slice.ensures ∙ sym
     (ap (page_columns c.args.style) is)

@@ -1,7 +1,7 @@
 -- The sections with the claim of the last are a valid certificate, and the page is that of its layout.
 use Rattle.std.proofs.Common.{◌≡◌, ℕ, ◌≤◌, List, length, sym, ap, subst, ◌∙◌}
 use Rattle.tl_base.specs.declared.limits.TheConstants.{MAX_COLUMNS}
-use Rattle.tl_base.specs.Style.{gap_of, edge_of}
+use Rattle.tl_base.specs.Style.{gap_of, edges_of}
 use Rattle.tl_base.specs.Sizes.{total}
 use Rattle.tl_cert.specs.declared.certificate.Certificate.{Certificate}
 use Rattle.tl_cert.specs.declared.certificate.Claim.{Claim}
@@ -106,7 +106,7 @@ returns-clause-laid g c =
     c.in_ok-page.text
     (subst (λ (one : Certificate). IsNamed table task.style one c.in_ok-layout.layout) made c.in_ok-layout.ensures.named)
     fits
-    (c.total_width-width.ensures ∙ ap (total (gap_of task.style) (edge_of task.style)) c.as_slice.ensures)
+    (c.total_width-width.ensures ∙ ap (total (gap_of task.style) (edges_of task.style)) c.as_slice.ensures)
     c.in_ok-page.ensures.page (
       c.in_ok-page.ensures.certificate ∙ ap (certificate_file task.certified) made,
       subst (IsReadBack task.certified) made (read_back task.certified c.args.certificate.now

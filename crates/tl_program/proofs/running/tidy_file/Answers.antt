@@ -1,12 +1,13 @@
 -- What the call answers for the bytes of the file is delivered.
-use Rattle.std.proofs.Common.{List, ℕ, subst}
+use Rattle.std.proofs.Common.{List, ℕ, subst, sym}
 use Rattle.std.specs.Prelude.{IfOk}
 use Rattle.tl_command.specs.declared.command.Command.TheVariants.{Tidy}
 use Rattle.tl_command.specs.Ask.{asked_by}
 use Rattle.tl_lay.specs.declared.task.Task.{Task}
 use Rattle.tl_lay.specs.Tidied.{IsTidied, IsTidiedAs}
+use Rattle.tl_lay.specs.Inputs.{IsTaskInRange}
 use Rattle.tl_program.specs.Change.{between}
-use Rattle.tl_program.specs.Tasks.{task_of}
+use Rattle.tl_program.specs.Tasks.{task_of, task_on}
 use Rattle.tl_program.proofs.Asking.{comes_of}
 use Rattle.tl_program.specs.Asks.{input_name}
 use Rattle.tl_program.specs.Settled.{Settles}
@@ -14,6 +15,13 @@ use Rattle.tl_program.proofs.FirstFitted.{loaded_settled, settles_loaded}
 use Rattle.tl_program.proofs.Loading.{IsLoadedFrom, follows_load, result_ends}
 use Rattle.tl_program.proofs.ReadFaults.{result_no_fault}
 use Rattle.tl_program.proofs.running.tidy_file.Goals as goal
+
+pub tidy-answer-requires-clause-range : goal.tidy-answer-requires-clause-range
+tidy-answer-requires-clause-range g c = λ lifetimes outlives.
+    let settled = asked_by c.in-Ok-settled.ask in
+    let range = c.in-Ok-settled.ensures.range c.args.ask.now.number c.requires.range in
+    subst IsTaskInRange (sym c.task_of-task.ensures)
+    (subst (λ (width : ℕ). IsTaskInRange (task_on width settled)) (sym c.in-Ok-settled.ensures.same.1) range)
 
 pub returns-in-Ok-settled-clause-ends : goal.returns-in-Ok-settled-clause-ends
 returns-in-Ok-settled-clause-ends g c = λ words is.
