@@ -35,6 +35,7 @@ STORED = {
     "narrow": {0: (PAGE | CERT, LESS), 3: (SPENT, PAGE | CERT | LESS), 5: (NONE, NONE), 6: (NONE, NONE), 12: (LESS, NONE)},
     "tidy": {0: (PAGE | CERT, LESS), 3: (PAGE | CERT, LESS | SPENT), 4: (CERT, NONE), 5: (NONE, NONE), 6: (NONE, NONE)},
 }
+STYLES = ("plain", "compact", "frame", "grid", "box")
 TAGS = ["table", "tr", "td", "th", "caption", "thead", "tbody", "tfoot", "colgroup", "col", "p", "div", "br", "b", "html", "body"]
 TEXTS = ["a", "aa bb", "x&amp;y", "&#x4e00;&#x4e8c;", "&nbsp;", "\u0301\u0301", "\ud55c\uae00", "<!-- c -->", " ", "&", "<", "&#0;", "\u202e"]
 
@@ -185,7 +186,7 @@ def changed_lines(rng, text):
 def options(rng, make):
     """The options of a layout that its check needs too, without the budget."""
     found = []
-    for name, values in (("--style", ("plain", "compact", "frame")), ("--break", ("words", "any", "fit", "7")), ("--workers", ("2", "16"))):
+    for name, values in (("--style", STYLES), ("--break", ("words", "any", "fit", "7")), ("--workers", ("2", "16"))):
         if rng.random() < 0.4:
             found += [name, rng.choice(values)]
     if make in CSV_KINDS:

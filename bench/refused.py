@@ -48,6 +48,7 @@ LAYOUTS = [
 ]
 OTHERS = [
     (0, "lowest height 2 width 10", ["page"], "lay 12 in page --html", TWO),
+    (0, "lowest height 4 width 11", ["page"], "lay 12 in page --style box --trim", TWO),
     (0, "slimmest width 10 height 2", NAMES[:3], "narrow 2 in page cert less spent", TWO),
     (3, "bounded width none least 7", NAMES[2:], "narrow 2 in page cert less spent --budget 0", TWO),
     (12, "too tall height 0", ["less"], "narrow 0 in page cert less spent", TWO),

@@ -137,6 +137,7 @@ is_refused "unknown option '--stlye': did you mean '--style'?" lay 9 in page --s
 is_refused "unknown option '--ccsv': did you mean '--csv'?" --ccsv lay 9 in page
 is_refused "unknown option '--style=frame'" check 9 in cert --style=frame
 is_refused "unknown option '--in'" tidy 9 --in page
+is_refused "unknown option '--trm': did you mean '--trim'?" lay 9 in page --trm
 is_refused "unknown option '--rows'" preview 9 in --rows
 for words in lya help; do
     "$checkout/tablelayout" $words >/dev/full 2>/dev/null

@@ -40,6 +40,9 @@ fi
 
 # Settings.
 with_filter columns.md -M tablelayout-style=frame 2>&1 | expect frame.txt "in a frame"
+printf '| a | b |\n|---|---|\n| c | d |\n' >"$room/made/head.md"
+with_filter "$room/made/head.md" -M tablelayout-style=grid 2>&1 | expect_text $'+-+-+\n|a|b|\n+=+=+\n|c|d|\n+-+-+' "in a grid"
+with_filter "$room/made/head.md" -M tablelayout-style=box 2>&1 | expect_text $'┌─┬─┐\n│a│b│\n╞═╪═╡\n│c│d│\n└─┴─┘' "in a box"
 with_filter columns.md -M tablelayout-width=7 2>&1 | expect broken.txt "with broken words"
 for breaking in 0 2 fit; do
     with_filter columns.md -M tablelayout-width=5 -M tablelayout-break="$breaking" 2>&1 |
@@ -55,7 +58,7 @@ for other in some 501 03; do
         expect_text "tablelayout-break is $other, and has to be words, any, fit or from 0 to 500" "of no breaking"
 done
 with_filter columns.md -M tablelayout-style=some 2>&1 >"$room/page" | grep -o "tablelayout-style is .*" |
-    expect_text "tablelayout-style is some, and has to be one of plain, compact, frame" "of no style"
+    expect_text "tablelayout-style is some, and has to be one of plain, compact, frame, grid, box" "of no style"
 with_filter columns.md -M tablelayout-width=501 2>&1 >"$room/page" | grep -o "tablelayout-width is .*" |
     expect_text "tablelayout-width is 501, and has to be from 1 to 500" "of too wide a page"
 

@@ -19,7 +19,7 @@ local REPLACEMENT = "\u{FFFD}"
 -- A page is text where pandoc writes text itself, and a block of code where it writes markdown.
 local TEXT_FORMATS = { plain = true, ansi = true }
 local MARKDOWN_FORMATS = { commonmark = true, commonmark_x = true, gfm = true }
-local STYLES = { "plain", "compact", "frame" }
+local STYLES = { "plain", "compact", "frame", "grid", "box" }
 local BREAKS = { "words", "any", "fit" }
 
 local is_text = TEXT_FORMATS[FORMAT]

@@ -12,7 +12,7 @@ import common
 
 import tablelayout
 from tablelayout.messages import headline
-from tablelayout.protocol import BadAnswer, read_answer, request
+from tablelayout.protocol import Answer, BadAnswer, read_answer, request
 
 COLUMNS = b"<table><tr><td>aaa bbb<td>cc dd ee</table>"
 WIDE = [["日本語", "é"], ["e\u0301", "a b"], ["🚢 ship", "ß"]]
@@ -83,6 +83,21 @@ class Answers(unittest.TestCase):
         hurried = self.layouter.tidy(html=COLUMNS, width=12, budget=2)
         self.same_as_command(hurried, "tidy", 12, COLUMNS, "--budget", "2")
         self.assertEqual((hurried.status, hurried.is_lowest, hurried.is_chosen), (3, True, False))
+
+    def test_spaces_at_the_ends_of_lines(self):
+        page = self.layouter.lay(html=COLUMNS, width=12, more=["--trim"])
+        self.same_as_command(page, "lay", 12, COLUMNS, "--trim")
+        self.assertEqual((page.text, page.width), ("aaa  cc dd\nbbb  ee\n", 10))
+        self.assertEqual(page.html, self.layouter.lay(html=COLUMNS, width=12).html)
+        self.assertEqual(self.layouter.check(html=COLUMNS, width=12, certificate=page.certificate).claim, "lowest")
+        hurried = self.layouter.tidy(html=COLUMNS, width=12, budget=2, more=["--trim"])
+        self.assertEqual((hurried.message, hurried.width, hurried.text), ("untidy choice", 10, page.text))
+
+    def test_lines_under_the_head(self):
+        for style, under in (("frame", "+-+-+"), ("grid", "+=+=+"), ("box", "╞═╪═╡")):
+            page = self.layouter.lay([["a", "b"], ["c", "d"]], 9, head=True, style=style)
+            self.assertEqual((page.text.split("\n")[2], page.width, page.is_lowest), (under, 5, True))
+            self.assertEqual(self.layouter.check([["a", "b"], ["c", "d"]], 9, page.certificate, head=True, style=style).claim, "lowest")
 
     def test_fit(self):
         # Words of 3 columns break, and those of 2 stay whole: columns of 2 and 2, with 2 between them.
@@ -362,6 +377,10 @@ class Messages(unittest.TestCase):
                 said, broken = headline(message), headline(f"{message} break 0")
                 self.assertEqual((said.breaking, broken.breaking), (None, 0))
                 self.assertEqual(broken.numbers, {**said.numbers, "break": "0"})
+
+    def test_width_without_a_number(self):
+        page = tablelayout.TidyPage(Answer(3, "untidy choice", "a\nb 日本\n".encode()), lambda _: Answer(0, ""), lambda _: page)
+        self.assertEqual((page.width, page.least, page.height), (6, 6, 2))
 
 
 class Protocol(unittest.TestCase):

@@ -84,6 +84,28 @@ class Show(unittest.TestCase):
         self.assertEqual(show(EXAMPLES / "columns.html", "--style", "compact", options="--style frame --width 12").lines[0], "aaa cc dd")
         self.assertEqual(show(EXAMPLES / "columns.html", options="'").status, 2)
 
+    def test_lines_under_the_head(self):
+        for style, first, under in (("frame", "+-------------+", "+----+---+----+"), ("grid", "+-------------+", "+====+===+====+"),
+                                    ("box", "┌─────────────┐", "╞════╪═══╪════╡")):
+            with self.subTest(style=style):
+                ran = show(EXAMPLES / "fares.html", "--width", 20, "--style", style)
+                self.assertEqual((ran.lines[0], ran.lines[6], len(ran.lines), ran.status, ran.said), (first, under, 11, 0, ""))
+        ran = show("--csv", "--head", "--style", "grid", data=b"a,b\nc,d\n")
+        self.assertEqual(ran.text, "+-+-+\n|a|b|\n+=+=+\n|c|d|\n+-+-+\n")
+
+    def test_spaces_at_the_ends_of_lines(self):
+        for more, wanted in (([], "aaa cc dd\nbbb ee   \n"), (["--trim"], "aaa cc dd\nbbb ee\n")):
+            self.assertEqual(show(EXAMPLES / "columns.html", "--width", 9, *more).text, wanted)
+        file = [EXAMPLES / "columns.html", "--width", 9, "--html"]
+        self.assertEqual(show(*file, "--trim").text, show(*file).text)
+
+    @common.needs_parser
+    def test_spaces_of_empty_lines_of_code(self):
+        data = b"<!DOCTYPE html><table><tr><td><pre>a  b\n\n c</pre></table>"
+        for more, wanted in (([], "a  b\n    \n c  \n"), (["--trim"], "a  b\n\n c\n"), (["--trim", "--records"], "[ 1 ]\n1 a  b\n\n   c\n")):
+            with self.subTest(more=more):
+                self.assertEqual(show(*more, data=data).text, wanted)
+
     def test_strict_places(self):
         ran = show(DRAWN / "refused.html", "--strict")
         self.assertEqual(ran.said + f"status {ran.status}\n", (DRAWN / "refused.txt").read_text())

@@ -14,6 +14,8 @@ if TYPE_CHECKING:
 
 # How words break where nothing else is asked for: as few as can be, so that a layout fits.
 BREAKING = "fit"
+# Options of the program that change how a page is written.
+TRIM, HTML_PAGE = "--trim", "--html"
 
 
 class Shown(NamedTuple):
@@ -38,6 +40,16 @@ class Way(NamedTuple):
     is_bold: bool = False
 
 
+def _printed(text: str, blank: str, options: Options) -> str:
+    """A page as it is printed. ``blank`` stands for a space at which no line breaks; with ``--trim`` no line ends with one."""
+    if not blank:
+        return text
+    if HTML_PAGE in options.more:
+        return text.replace(blank, "&nbsp;")
+    text = text.replace(blank, " ")
+    return "\n".join(line.rstrip(" ") for line in text.split("\n")) if TRIM in options.more else text
+
+
 def _with_breaking(options: Options, page: LowPage) -> Options:
     """Options by which the words of a part of the page break as they do on the whole page."""
     return options if page.breaking is None else options._replace(breaking=str(page.breaking))
@@ -52,7 +64,7 @@ def _lay_records(layouter: Layouter, item: Item, columns: "Columns", way: Way) -
     page = layouter.lay_source(Source(file.data), way.width, way.options)
     hint = "; --rows chooses others" if item.source.is_rows and not item.more else ""
     more = " and ".join(it for it in (f"{vertical.more:,} more records" if vertical.more else "", item.more) if it)
-    return Shown(file.shown(page.text), page.message, page.status, more + (hint if vertical.more else ""))
+    return Shown(_printed(page.text, file.blank, way.options), page.message, page.status, more + (hint if vertical.more else ""))
 
 
 def lay_item(layouter: Layouter, item: Item, way: Way) -> Shown:
@@ -67,8 +79,7 @@ def lay_item(layouter: Layouter, item: Item, way: Way) -> Shown:
         if not columns:
             raise
         return _lay_records(layouter, item, columns, way)
-    blank = "&nbsp;" if "--html" in way.options.more else " "
-    text = page.text.replace(item.blank, blank) if item.blank else page.text
+    text = _printed(page.text, item.blank, way.options)
     if way.is_bold:
         from .bold import bolded, head_height
 

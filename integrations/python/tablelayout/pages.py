@@ -23,8 +23,8 @@ Relay = Callable[[int], "Page"]
 class Page:
     """A page of text. ``str()`` and ``print()`` give its text.
 
-    ``text`` has the lines, each with a line feed. ``height`` counts lines and ``width`` columns of a terminal.
-    ``message`` is that of the command. With ``breaking="fit"`` the page's ``breaking`` is the number of columns above which
+    ``text`` has the lines, each with a line feed. ``height`` counts lines and ``width`` columns of a terminal; where the
+    message has no width it is that of the widest line. ``message`` is that of the command. With ``breaking="fit"`` the page's ``breaking`` is the number of columns above which
     words may break, and None where whole words fit; with any other it is None.
     """
 
@@ -33,8 +33,9 @@ class Page:
         self.message = answer.message
         self.status = answer.status
         self.height = self.text.count("\n")
-        self.width = width_of(self.text.partition("\n")[0])
-        self.breaking = headline(answer.message).breaking
+        said = headline(answer.message)
+        self.width = said.number("width", 0) or max(width_of(line) for line in self.text.split("\n"))
+        self.breaking = said.breaking
         self._again = again
         self._relay = relay
 
@@ -81,7 +82,6 @@ class LowPage(Page):
         super().__init__(answer, again, relay)
         said = headline(answer.message)
         self.height = said.number("height", self.height)
-        self.width = said.number("width", self.width)
         self.lower = said.number("lower", self.height)
         self.is_lowest = self.lower == self.height
 
@@ -95,7 +95,6 @@ class NarrowPage(Page):
     def __init__(self, answer: Answer, again: Again, relay: Relay) -> None:
         super().__init__(answer, again, relay)
         said = headline(answer.message)
-        self.width = said.number("width", self.width)
         self.least = said.number("least", self.width)
         self.is_narrowest = self.least == self.width
 
@@ -120,7 +119,6 @@ class TidyPage(NarrowPage):
         Page.__init__(self, answer, again, relay)
         said = headline(answer.message)
         self.height = said.number("height", self.height)
-        self.width = said.number("width", self.width)
         self.lower = said.number("lower", self.height)
         # Where the height is open nothing is known of widths.
         self.least = said.number("least", 1 if said.kind == "bounded" else self.width)
