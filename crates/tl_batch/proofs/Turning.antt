@@ -1,6 +1,7 @@
 -- Requests and their answers, one turn after the other.
 use Rattle.std.specs.Prelude.{⊤}
-use Rattle.std.proofs.Common.{◌∙◌, ◌≡◌, ◌≢◌, ◌+◌, ◌-◌, ◌^◌, ◌≤◌, List, [], ◌∷◌, ◌++◌, ℕ, Bool, true, false, Option, None, Some, IfSome, sym, ap, refl, subst, inl, inr, arith, length, take}
+use Rattle.std.proofs.Common.{◌∙◌, ◌≡◌, ◌≢◌, ◌+◌, ◌-◌, ◌^◌, ◌≤◌, List, [], ◌∷◌, ◌++◌, ℕ, Bool, true, false, Option, None, Some}
+use Rattle.std.proofs.Common.{IfSome, sym, ap, refl, subst, inl, inr, arith, length, take}
 use Rattle.std.specs.Io.KnownBytes.{Appends, IsAtEnd}
 use Rattle.std.proofs.lemmas.Bool.{false≢true}
 use Rattle.std.proofs.lemmas.Grind.{flat_map-append}

@@ -6,7 +6,9 @@ ghost use Rattle.tl_cert.specs.Lines.{IsGoodLine};
 ghost use Rattle.tl_cert.specs.Traces.{IsZoneOf, Stands};
 ghost use Rattle.tl_solve.specs.Arenas.{HasBoundBelow};
 ghost use Rattle.tl_cert.specs.declared.log.End.TheVariants as ends;
-ghost use Rattle.tl_branch.specs.inner.Learnings.{ArePartLines, HasLine, HasLineOfCut, AreJoinedBut, IsGrown, IsHandled, IsLearning, IsRetried, IsShut, NoOtherLine, NoOtherStandingLine, NoStandingLine, StaysOpen, line_of};
+ghost use Rattle.tl_branch.specs.inner.Learnings.{ArePartLines, HasLine, HasLineOfCut, AreJoinedBut, IsGrown, IsHandled};
+ghost use Rattle.tl_branch.specs.inner.Learnings.{IsLearning, IsRetried, IsShut, NoOtherLine, NoOtherStandingLine};
+ghost use Rattle.tl_branch.specs.inner.Learnings.{NoStandingLine, StaysOpen, line_of};
 ghost use Rattle.tl_branch.specs.Learn.{FiresAreNeeded};
 
 use crate::learning::Learning;

@@ -1,6 +1,7 @@
 //! Laws of the definitions in this crate's specs. Each is the contract of a function that does nothing.
 ghost use Rattle.tl_problem.specs.Laws.{AreaBoundIsBelowLayouts, BoundIsBelowLayouts, BoundIsBelowPlacements};
-ghost use Rattle.tl_problem.specs.Laws.{CutsArePartitions, OneClassIsExact, ShareBoundIsBelowLayouts, ShareBoundRises, TightOnce, TightRaisesNothing, WholeHasAll};
+ghost use Rattle.tl_problem.specs.Laws.{CutsArePartitions, OneClassIsExact, ShareBoundIsBelowLayouts, ShareBoundRises};
+ghost use Rattle.tl_problem.specs.Laws.{TightOnce, TightRaisesNothing, WholeHasAll};
 
 /// No layout by `low` with widths in a zone is lower than the zone's bound.
 pub fn bound_is_below_layouts()

@@ -1,5 +1,6 @@
 -- The words of a line, taken from its front.
-use Rattle.std.proofs.Common.{◌∙◌, ◌≡◌, ◌+◌, ◌-◌, ◌<◌, ◌++◌, ◌==◌, List, [], ◌∷◌, ℕ, Option, Global, String, map, string_bytes, sym, subst, ap, ap₂, arith, drop, get_or, length, take}
+use Rattle.std.proofs.Common.{◌∙◌, ◌≡◌, ◌+◌, ◌-◌, ◌<◌, ◌++◌, ◌==◌, List, [], ◌∷◌, ℕ, Option, Global, String, map, string_bytes}
+use Rattle.std.proofs.Common.{sym, subst, ap, ap₂, arith, drop, get_or, length, take}
 use Rattle.std.specs.List.{All, position_or_len}
 use Rattle.std.specs.Str.{IsUtf8}
 use Rattle.std.proofs.lemmas.List.{append_assoc, length-append, length-drop, take_all}

@@ -268,16 +268,17 @@ head-uncrossed table =
 
 -- ---- the caption's row
 
+-- the kind of a cell of a row is no caption
+pub row-kind : (head : Bool) → is_caption (header_kind head) ≡ false
+row-kind true = refl
+row-kind false = refl
+
 no_captions : (cells : List TableCell) → AllByRecursion IsRowCell cells →
     list_any (λ cell. is_caption cell.kind) (map out-TableCell cells) ≡ false
 no_captions [] all = refl
 no_captions (cell ∷ cells) all =
     or_from (is_caption (out-TableCell cell).kind) (list_any (λ cell. is_caption cell.kind) (map out-TableCell cells))
-    (ap is_caption all.0.1 ∙ of_row all.0.0) (no_captions cells all.1)
-  where
-    of_row : (head : Bool) → is_caption (header_kind head) ≡ false
-    of_row true = refl
-    of_row false = refl
+    (ap is_caption all.0.1 ∙ row-kind all.0.0) (no_captions cells all.1)
 
 -- a caption's row alone is a run: the caption ends there, and all others begin below it
 caption_runs : (passes : OpenCell → Bool) (cols rows : ℕ) (caption : TableCell) (body : List TableCell) →

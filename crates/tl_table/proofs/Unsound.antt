@@ -10,20 +10,11 @@ use Rattle.tl_table.specs.declared.cell.Kind.{Kind}
 use Rattle.tl_table.specs.declared.cell.Kind.TheVariants as kinds
 use Rattle.tl_table.specs.declared.cell.Table.{Table, out-Table, roll-Table, out-roll-Table}
 use Rattle.tl_table.specs.declared.cell.TableCell.{TableCell, out-TableCell, roll-TableCell, out-roll-TableCell}
-use Rattle.tl_table.specs.Formed.{header_kind}
+use Rattle.tl_table.proofs.HeadLaws.{row-kind}
+use Rattle.tl_table.specs.Heads.{is_caption}
 use Rattle.tl_table.specs.Sound.{IsSound}
 use Rattle.tl_table.specs.Spellable.{AreCaption, IsRowCell, IsSpellableBy, IsSpellableWithin}
 use Rattle.tl_table.specs.Tables.{OpenCell, OpenTable}
-
--- a caption, and no cell of a row
-abbrev is_caption : Kind → Bool
-is_caption kinds.Caption = true
-is_caption kinds.Head = false
-is_caption kinds.Plain = false
-
-row_kind : (head : Bool) → is_caption (header_kind head) ≡ false
-row_kind true = refl
-row_kind false = refl
 
 -- ---- a caption with a floor
 
@@ -49,7 +40,7 @@ no_split cols [] [] same captioned rows =
     let many : 1 ≡ 0 = ap (λ (cells : List TableCell). length cells) same in omega (arith, many)
 no_split cols [] (one ∷ body) same captioned rows =
     let kind : true ≡ false = ap (λ (c : OpenCell). is_caption c.kind) (sym (out-roll-TableCell open_cell))
-    ∙ ap kind_of same ∙ ap is_caption rows.0.1 ∙ row_kind rows.0.0 in
+    ∙ ap kind_of same ∙ ap is_caption rows.0.1 ∙ row-kind rows.0.0 in
     absurd cc
   where
     kind_of : List TableCell → Bool

@@ -1,7 +1,8 @@
 //! Laws of the definitions in this crate's specs. Each is the contract of a function that does nothing.
 
 ghost use Rattle.tl_table.specs.FewCells.{FormedHasFewCells};
-ghost use Rattle.tl_table.specs.Laws.{EachNumberIsOfOneTable, FileSpellsOneTable, FormedTablesAreSound, NoCellCrossesTheHead, NoPageIsNarrowerThanAChain, TheFirstHasTheLeastNumber};
+ghost use Rattle.tl_table.specs.Laws.{EachNumberIsOfOneTable, FileSpellsOneTable, FormedTablesAreSound, NoCellCrossesTheHead};
+ghost use Rattle.tl_table.specs.Laws.{NoPageIsNarrowerThanAChain, TheFirstHasTheLeastNumber};
 
 use tl_tree::tokens_spell_one_tree;
 

@@ -1,6 +1,7 @@
 -- The clusters of the parts of a text are its clusters: a part begins with a letter or digit of ASCII,
 -- before which a cluster ends and past which no rule on clusters looks back.
-use Rattle.std.proofs.Common.{◌≡◌, ℕ, zero, suc, ◌<◌, Bool, true, false, cond, if◌then◌else◌, not, ◌&&◌, ◌||◌, List, [], ◌∷◌, ◌++◌, map, drop, get_or, unwrap_or, refl, ap, ap₂, sym, ◌∙◌, arith}
+use Rattle.std.proofs.Common.{◌≡◌, ℕ, zero, suc, ◌<◌, Bool, true, false, cond, if◌then◌else◌, not, ◌&&◌, ◌||◌, List, [], ◌∷◌}
+use Rattle.std.proofs.Common.{◌++◌, map, drop, get_or, unwrap_or, refl, ap, ap₂, sym, ◌∙◌, arith}
 use Rattle.std.proofs.Common.{append_assoc, inl, inr}
 use Rattle.std.specs.List.{flat_map}
 use Rattle.std.specs.Char.{is_ascii_alphanumeric}
@@ -9,7 +10,8 @@ use Rattle.std.proofs.lemmas.Bool.Decides.{nat_tests}
 use Rattle.unicode_segmentation.specs.GraphemeClusterBreak.{grapheme_cluster_break, grapheme_cluster_break_from_number}
 use Rattle.unicode_segmentation.specs.IndicConjunctBreak.{indic_conjunct_break, indic_conjunct_break_from_number}
 use Rattle.unicode_segmentation.specs.Emoji.{is_extended_pictographic}
-use Rattle.unicode_segmentation.specs.Grapheme.{break_by_pair, ends_in_linker, is_consonant, is_extend, is_zwj, is_regional, ends_in_pictograph, joins_emoji, ends_in_half_flag, is_grapheme_break}
+use Rattle.unicode_segmentation.specs.Grapheme.{break_by_pair, ends_in_linker, is_consonant, is_extend, is_zwj, is_regional}
+use Rattle.unicode_segmentation.specs.Grapheme.{ends_in_pictograph, joins_emoji, ends_in_half_flag, is_grapheme_break}
 use Rattle.unicode_segmentation.specs.Segments.{Rule, cut, prepend}
 use Rattle.unicode_segmentation.proofs.Computing.{unicode_segmentation}
 use Rattle.unicode_segmentation.proofs.GraphemeLemmas.{joins_emoji-not_zwj, is_grapheme_break-others}

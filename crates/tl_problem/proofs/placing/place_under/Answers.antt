@@ -37,8 +37,9 @@ overflow_cast-height c =
     let p = c.args.problem.now in
     let is : c.total_size-height.result ≡ total_height p c.in_ok-heights.heights = rw
     (c.as_slice.ensures, c.spacing-spacing.ensures.spacing) at c.total_size-height.ensures.total in
-    let few = total-few p.spacing.row_gap p.spacing.lines c.in_ok-heights.heights c.spacing-spacing.ensures.sound.close c.spacing-spacing.ensures.sound.few (omega
-    (arith, c.in_ok-heights.ensures.least.kind.count, c.cells-cells.ensures.sound.few_rows)) in
+    let spaced = c.spacing-spacing.ensures.sound in
+    let few = total-few p.spacing.row_gap p.spacing.lines c.in_ok-heights.heights spaced.close spaced.few
+    (omega (arith, c.in_ok-heights.ensures.least.kind.count, c.cells-cells.ensures.sound.few_rows)) in
     let sums = high-sum p c.cells-cells.ensures.sound c.args.widths.now c.in_ok-demands.demands.items c.in_ok-demands.ensures in
     let small = rw c.deref.ensures.value at c.in_ok-heights.ensures.small in
     omega (arith, is, few, sums, small)

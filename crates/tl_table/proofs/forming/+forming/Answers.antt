@@ -220,7 +220,9 @@ written_cells-group_cells-requires t c =
           Writes-room c.args.breaking (λ (group : GroupNode). cells_of_group (out-GroupNode group)) c.args.groups
               (length c.loop-group.yielded) c.in-Some.group c.args.places.now [] c.loop-group.written.items at.within at.is
               (subst (λ (some : List GroupNode). Writes c.args.breaking (cells_of_groups some)
-              (marks_of_groups c.loop-group.yielded) c.args.places.now [] c.loop-group.written.items) at.so_far c.loop-group.invariant) (omega (arith, c.requires.room)),
+              (marks_of_groups c.loop-group.yielded) c.args.places.now [] c.loop-group.written.items) at.so_far
+              c.loop-group.invariant)
+              (omega (arith, c.requires.room)),
         ),
       ),
     )
@@ -245,7 +247,8 @@ written_cells-returns-in_err-written-2-clause-err t c =
 pub written_cells-loop-group-preserved : goal.written_cells-loop-group-preserved
 written_cells-loop-group-preserved t c =
     Writes-last c.args.breaking (λ (group : GroupNode). cells_of_group (out-GroupNode group))
-    (λ (group : GroupNode). marks_of_group (out-GroupNode group)) c.loop-group.yielded c.in-Some.group c.args.places.now [] c.loop-group.written.items c.in_ok-written-2.written.items c.loop-group.invariant
+    (λ (group : GroupNode). marks_of_group (out-GroupNode group)) c.loop-group.yielded c.in-Some.group
+    c.args.places.now [] c.loop-group.written.items c.in_ok-written-2.written.items c.loop-group.invariant
     c.in_ok-written-2.ensures.ok
 
 pub formed-returns-in_err-grid-clause-err : goal.formed-returns-in_err-grid-clause-err
