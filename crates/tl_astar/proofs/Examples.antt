@@ -188,7 +188,7 @@ past_the_page = record {
 }
 
 abbrev narrow : ProblemModel
-narrow = record { cols = 1; rows = 1; spacing = spacing_of Plain; width = 5; cells = past_the_page ∷ [] }
+narrow = record { cols = 1; rows = 1; spacing = spacing_of Plain 0; width = 5; cells = past_the_page ∷ [] }
 
 -- `low` is `high` at each width of the page
 low_is_high : LowIsHigh narrow

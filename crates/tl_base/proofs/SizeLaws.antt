@@ -7,7 +7,7 @@ use Rattle.std.proofs.lemmas.List.{take_all, get_or_default}
 use Rattle.std.proofs.lemmas.List.Sums.{sum_by-cons, sum_by-take-le, sum_by-take-drop, sum_by-le}
 use Rattle.tl_base.specs.declared.limits.TheConstants.{MAX_ROWS}
 use Rattle.tl_base.specs.declared.style.Style.{Style}
-use Rattle.tl_base.specs.declared.style.Style.TheVariants.{Plain, Compact, Frame, Grid, Box}
+use Rattle.tl_base.specs.declared.style.Style.TheVariants.{Plain, Compact, Frame, Grid, Box, Rule, Apart}
 use Rattle.tl_base.specs.Style.{spacing_of, IsSpacing}
 use Rattle.tl_base.proofs.Sums.{sum-cons, sum-within}
 use Rattle.tl_base.specs.Sizes.{position, room, total}
@@ -167,10 +167,12 @@ total-few gap edges (size ∷ sizes) close beside few =
     let gaps = mul-le-mul close same in
     omega (arith, sum_by-cons (λ x. x) size sizes, gaps, beside, few)
 
--- ---- the spacing of a style is one
-pub spacing-sound : (style : Style) → IsSpacing (spacing_of style)
-spacing-sound Plain = record { apart = omega arith; near = omega arith; close = omega arith; narrow = omega arith; few = omega arith }
-spacing-sound Compact = record { apart = omega arith; near = omega arith; close = omega arith; narrow = omega arith; few = omega arith }
-spacing-sound Frame = record { apart = omega arith; near = omega arith; close = omega arith; narrow = omega arith; few = omega arith }
-spacing-sound Grid = record { apart = omega arith; near = omega arith; close = omega arith; narrow = omega arith; few = omega arith }
-spacing-sound Box = record { apart = omega arith; near = omega arith; close = omega arith; narrow = omega arith; few = omega arith }
+-- ---- the spacing of a style is one, with few lines beside the rows
+pub spacing-sound : (style : Style) (lines : ℕ) → lines ≤ MAX_ROWS + 2 → IsSpacing (spacing_of style lines)
+spacing-sound Plain lines few = record { apart = omega arith; near = omega arith; close = omega arith; narrow = omega arith; few = few }
+spacing-sound Compact lines few = record { apart = omega arith; near = omega arith; close = omega arith; narrow = omega arith; few = few }
+spacing-sound Frame lines few = record { apart = omega arith; near = omega arith; close = omega arith; narrow = omega arith; few = few }
+spacing-sound Grid lines few = record { apart = omega arith; near = omega arith; close = omega arith; narrow = omega arith; few = few }
+spacing-sound Box lines few = record { apart = omega arith; near = omega arith; close = omega arith; narrow = omega arith; few = few }
+spacing-sound Rule lines few = record { apart = omega arith; near = omega arith; close = omega arith; narrow = omega arith; few = few }
+spacing-sound Apart lines few = record { apart = omega arith; near = omega arith; close = omega arith; narrow = omega arith; few = few }

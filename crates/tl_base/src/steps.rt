@@ -362,6 +362,8 @@ mod tests {
             (Style::Frame, 1, 1, 1),
             (Style::Grid, 1, 1, 1),
             (Style::Box, 1, 1, 1),
+            (Style::Rule, 1, 0, 0),
+            (Style::Apart, 1, 0, 0),
         ] {
             assert_eq!(rt;
                 (style.gap(), style.row_gap(), style.edge()),

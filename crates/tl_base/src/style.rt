@@ -15,6 +15,10 @@ pub enum Style {
     Grid,
     /// As [`Style::Frame`], with the box drawing characters of Unicode, double under the head.
     Box,
+    /// As [`Style::Compact`], with a line of `-` under the head of the table.
+    Rule,
+    /// As [`Style::Rule`], with an empty line between any two rows below the head.
+    Apart,
 }
 
 impl Style {
@@ -27,16 +31,17 @@ impl Style {
     {
         match self {
             Style::Plain => 2,
-            Style::Compact | Style::Frame | Style::Grid | Style::Box => 1,
+            Style::Compact | Style::Frame | Style::Grid | Style::Box | Style::Rule | Style::Apart =>
+                1,
         }
     }
 
-    /// The lines between two rows of the table.
+    /// The lines between any two rows of the table.
     pub fn row_gap(self) -> u32
         ensures { result ≡ row_gap_of self }
     {
         match self {
-            Style::Plain | Style::Compact => 0,
+            Style::Plain | Style::Compact | Style::Rule | Style::Apart => 0,
             Style::Frame | Style::Grid | Style::Box => 1,
         }
     }
@@ -46,7 +51,7 @@ impl Style {
         ensures { result ≡ edge_of self }
     {
         match self {
-            Style::Plain | Style::Compact => 0,
+            Style::Plain | Style::Compact | Style::Rule | Style::Apart => 0,
             Style::Frame | Style::Grid | Style::Box => 1,
         }
     }
@@ -58,15 +63,16 @@ impl Style {
         2 * self.edge()
     }
 
-    /// How far the columns and rows of a table stand apart: all that layouts see of a style.
-    pub fn spacing(self) -> Spacing
-        ensures { result ≡ spacing_of self }
+    /// How far the columns and rows of a table stand apart, with so many lines beside its rows and the
+    /// gaps between them: all that layouts see of a style.
+    pub fn spacing(self, lines: u32) -> Spacing
+        ensures { result ≡ spacing_of self lines }
     {
         Spacing {
             gap: self.gap(),
             row_gap: self.row_gap(),
             edges: self.edges(),
-            lines: self.edges(),
+            lines,
         }
     }
 }

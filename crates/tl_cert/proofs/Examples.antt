@@ -60,7 +60,7 @@ cells = cell 0 0 (two_words 1) ∷ cell 1 0 (two_words 1) ∷ cell 2 0 (step 1 2
     (two_words 4) ∷ cell 3 1 (two_words 4) ∷ []
 
 abbrev problem : ProblemModel
-problem = record { cols = 4; rows = 2; spacing = spacing_of Plain; width = 25; cells = cells }
+problem = record { cols = 4; rows = 2; spacing = spacing_of Plain 0; width = 25; cells = cells }
 
 sixteen : count_of problem ≡ 16
 unfolding spans_of classes_of

@@ -3,7 +3,7 @@ use Rattle.std.proofs.Common.{◌≡◌, ℕ, List, [], ◌∷◌, refl}
 use Rattle.std.specs.Prelude.{Some, None, codes}
 use Rattle.std.specs.List.{concat}
 use Rattle.tl_base.specs.declared.style.Style.{Style}
-use Rattle.tl_base.specs.declared.style.Style.TheVariants.{Plain, Compact, Frame, Grid, Box}
+use Rattle.tl_base.specs.declared.style.Style.TheVariants.{Plain, Compact, Frame, Grid, Box, Rule, Apart}
 use Rattle.tl_cert.specs.declared.log.Side.TheVariants.{Most, Least}
 use Rattle.tl_cert.specs.declared.log.Nogood.TheVariants as nogoods
 use Rattle.tl_cert.specs.declared.log.End.{End}
@@ -273,3 +273,21 @@ narrow_in_box : cert_text (edged Box)
     codes "end\n" ∷ [])
 unfolding numeral
 narrow_in_box = refl
+
+narrow_with_rule : cert_text (edged Rule)
+    ≡ concat (
+    codes "tablelayout 1 10 rule 0\n" ∷
+    codes "narrow 11\n" ∷
+    codes "chain 0 0 1\n" ∷
+    codes "end\n" ∷ [])
+unfolding numeral
+narrow_with_rule = refl
+
+narrow_apart : cert_text (edged Apart)
+    ≡ concat (
+    codes "tablelayout 1 10 apart 0\n" ∷
+    codes "narrow 11\n" ∷
+    codes "chain 0 0 1\n" ∷
+    codes "end\n" ∷ [])
+unfolding numeral
+narrow_apart = refl

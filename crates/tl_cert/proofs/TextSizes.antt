@@ -276,6 +276,8 @@ style_most styles.Compact = omega arith
 style_most styles.Frame = omega arith
 style_most styles.Grid = omega arith
 style_most styles.Box = omega arith
+style_most styles.Rule = omega arith
+style_most styles.Apart = omega arith
 
 claim_most : (claim : Claim) → most_in (claim_pieces claim) ≤ 30
 unfolding numeral

@@ -52,17 +52,41 @@ impl<'a> Reader<'a> {
             self.word(b"grid ")?;
             return Ok(Style::Grid);
         }
-        self.box_or_style_without_lines()
+        self.box_or_open_style()
     }
 
     #[tactic(auto, unfolding(crate::specs::inner::CertReading::box_or_none_at, // and how readings follow one another
     crate::specs::inner::reading::Readings::followed, crate::specs::inner::reading::Readings::either, crate::specs::inner::reading::Readings::give))]
-    fn box_or_style_without_lines(&mut self) -> Result<Style, Fault>
+    fn box_or_open_style(&mut self) -> Result<Style, Fault>
         ensures { Gives (λ x. x) result self.new.rest.now (read.box_or_none_at self.old.rest.now) }
     {
         if self.next_is(b'b') {
             self.word(b"box ")?;
             return Ok(Style::Box);
+        }
+        self.open_style()
+    }
+
+    #[tactic(auto, unfolding(crate::specs::inner::CertReading::rule_or_none_at, // and how readings follow one another
+    crate::specs::inner::reading::Readings::followed, crate::specs::inner::reading::Readings::either, crate::specs::inner::reading::Readings::give))]
+    fn open_style(&mut self) -> Result<Style, Fault>
+        ensures { Gives (λ x. x) result self.new.rest.now (read.rule_or_none_at self.old.rest.now) }
+    {
+        if self.next_is(b'r') {
+            self.word(b"rule ")?;
+            return Ok(Style::Rule);
+        }
+        self.apart_or_style_without_lines()
+    }
+
+    #[tactic(auto, unfolding(crate::specs::inner::CertReading::apart_or_none_at, // and how readings follow one another
+    crate::specs::inner::reading::Readings::followed, crate::specs::inner::reading::Readings::either, crate::specs::inner::reading::Readings::give))]
+    fn apart_or_style_without_lines(&mut self) -> Result<Style, Fault>
+        ensures { Gives (λ x. x) result self.new.rest.now (read.apart_or_none_at self.old.rest.now) }
+    {
+        if self.next_is(b'a') {
+            self.word(b"apart ")?;
+            return Ok(Style::Apart);
         }
         self.style_without_lines()
     }

@@ -262,6 +262,8 @@ fn put_style(out: &mut List<u8>, style: Style) -> Result<(), AllocError>
         Style::Frame => out.extend_from_slice(b"frame "),
         Style::Grid => out.extend_from_slice(b"grid "),
         Style::Box => out.extend_from_slice(b"box "),
+        Style::Rule => out.extend_from_slice(b"rule "),
+        Style::Apart => out.extend_from_slice(b"apart "),
     }
 }
 

@@ -66,10 +66,10 @@ fn problem(alloc: Global, cols: u32, rows: u32, width: u32, text: &str) -> Resul
     for text in text.split("; ") {
         cells.push(cell(alloc, text)?)?;
     }
-    if !Problem::is_sound(cols, rows, Style::Plain.spacing(), width, cells.as_slice()) {
+    if !Problem::is_sound(cols, rows, Style::Plain.spacing(0), width, cells.as_slice()) {
         return Err("the cells make no sound problem".into());
     }
-    Ok(Problem::new(alloc, cols, rows, Style::Plain.spacing(), width, cells)?)
+    Ok(Problem::new(alloc, cols, rows, Style::Plain.spacing(0), width, cells)?)
 }
 
 /// On 12 columns there are two lines at 3 and 5 columns, and never one.

@@ -26,7 +26,7 @@ abbrev second : Cell
 second = cell 1 2 0 1 two_words
 
 abbrev side_by_side : ProblemModel
-side_by_side = record { cols = 2; rows = 1; spacing = spacing_of Plain; width = 7; cells = first ∷ second ∷ [] }
+side_by_side = record { cols = 2; rows = 1; spacing = spacing_of Plain 0; width = 7; cells = first ∷ second ∷ [] }
 
 fits : (a b : ℕ) → 1 ≤ a → 1 ≤ b → a + b ≤ 5 → WithinPage side_by_side (a ∷ b ∷ [])
 fits a b one other page = record {

@@ -56,7 +56,7 @@ abbrev pub problem : ProblemModel
 problem = record {
   cols = 2;
   rows = 2;
-  spacing = spacing_of Plain;
+  spacing = spacing_of Plain 0;
   width = 9;
   cells =
       wide ∷ cell 0 1 1 2 (step 1 1 ∷ []) ∷ cell 1 2 1 2 (step 2 1 ∷ []) ∷ [];
@@ -85,7 +85,7 @@ abbrev many : ProblemModel
 many = record {
   cols = 32;
   rows = 1;
-  spacing = spacing_of Plain;
+  spacing = spacing_of Plain 0;
   width = 190;
   cells =
       map (λ column. cell column (column + 1) 0 1 (step 1 4 ∷ step 2 3 ∷ step 3 2 ∷ step 4 1 ∷ [])) (range_with_len 0 32);

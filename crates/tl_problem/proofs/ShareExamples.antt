@@ -34,7 +34,7 @@ abbrev shared : ProblemModel
 shared = record {
   cols = 2;
   rows = 2;
-  spacing = spacing_of Plain;
+  spacing = spacing_of Plain 0;
   width = 21;
   cells = cell 0 1 0 1 long ∷ cell 1 2 0 1 long ∷ cell 0 1 1 2 short ∷ cell 1 2 1 2 short ∷ [];
 }

@@ -188,10 +188,10 @@ fn cells(alloc: Global, text: &str) -> Result<List<Cell>, Fail> {
 /// A spacing: that of a style, or its gap, row gap, edges and lines, as `2,0,0,5`.
 fn spacing(text: &str) -> Result<Spacing, Fail> {
     if text == "frame" {
-        return Ok(Style::Frame.spacing());
+        return Ok(Style::Frame.spacing(2));
     }
     if text == "plain" {
-        return Ok(Style::Plain.spacing());
+        return Ok(Style::Plain.spacing(0));
     }
     let (gap, rest) = text.split_once(',').ok_or("no row gap")?;
     let (row_gap, rest) = rest.split_once(',').ok_or("no edges")?;
@@ -613,7 +613,7 @@ fn a_row(alloc: Global, cols: u32, more: u32, one: &str) -> Result<Option<Proble
             high,
         })?;
     }
-    made(alloc, cols, 1, Style::Plain.spacing(), 200, cells)
+    made(alloc, cols, 1, Style::Plain.spacing(0), 200, cells)
 }
 
 /// The count of such a row, or that it is no sound problem.

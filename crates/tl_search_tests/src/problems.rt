@@ -86,10 +86,23 @@ pub(crate) fn styled(
     width: u32,
     cells: List<Cell>,
 ) -> Result<Problem, Fail> {
-    if !Problem::is_sound(cols, rows, style.spacing(), width, cells.as_slice()) {
+    if !Problem::is_sound(
+        cols,
+        rows,
+        style.spacing(style.edges()),
+        width,
+        cells.as_slice(),
+    ) {
         return Err("the cells are no sound problem".into());
     }
-    Ok(Problem::new(alloc, cols, rows, style.spacing(), width, cells)?)
+    Ok(Problem::new(
+        alloc,
+        cols,
+        rows,
+        style.spacing(style.edges()),
+        width,
+        cells,
+    )?)
 }
 
 /// Four columns on a page of 25: `a a`, `b b` and a `c` of two lines in the upper row; `p`, `q`,

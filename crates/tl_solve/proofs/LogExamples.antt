@@ -51,7 +51,7 @@ abbrev cells : List Cell
 cells = cell 0 ∷ cell 1 ∷ []
 
 abbrev problem : ProblemModel
-problem = record { cols = 2; rows = 1; spacing = spacing_of Plain; width = 6; cells = cells }
+problem = record { cols = 2; rows = 1; spacing = spacing_of Plain 0; width = 6; cells = cells }
 
 abbrev trace : List CutAt
 trace = record { zone = 0; span = 0; class = 1 } ∷ []

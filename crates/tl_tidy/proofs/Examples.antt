@@ -54,7 +54,7 @@ abbrev problem : ProblemModel
 problem = record {
   cols = 2;
   rows = 2;
-  spacing = spacing_of Plain;
+  spacing = spacing_of Plain 0;
   width = 6;
   cells = cell 0 0 long ∷ cell 1 0 short ∷ cell 0 1 short ∷ cell 1 1 long ∷ [];
 }
@@ -120,7 +120,7 @@ within first second some more page = record {
 sound : IsSound problem
 unfolding Apart
 sound = record {
-  spaced = spacing-sound Plain;
+  spaced = spacing-sound Plain 0 (omega arith);
   few_columns = omega arith;
   few_rows = omega arith;
   narrow = omega arith;
@@ -277,7 +277,7 @@ framed_cell = record {
 }
 
 abbrev framed : ProblemModel
-framed = record { cols = 1; rows = 1; spacing = spacing_of Frame; width = 6; cells = framed_cell ∷ [] }
+framed = record { cols = 1; rows = 1; spacing = spacing_of Frame 2; width = 6; cells = framed_cell ∷ [] }
 
 -- so it needs the same by both in any room
 same_in_rooms : LowIsHigh framed

@@ -3,7 +3,7 @@ use Rattle.std.proofs.Common.{◌≡◌, ℕ, Bool, true, false, eqb, List, [], 
 use Rattle.std.specs.Prelude.{codes}
 use Rattle.std.specs.List.{flat_map}
 use Rattle.tl_base.specs.declared.style.Style.{Style}
-use Rattle.tl_base.specs.declared.style.Style.TheVariants.{Plain, Compact, Frame, Grid, Box}
+use Rattle.tl_base.specs.declared.style.Style.TheVariants.{Plain, Compact, Frame, Grid, Box, Rule, Apart}
 use Rattle.tl_base.specs.declared.chain.Chain.{Chain}
 use Rattle.tl_cert.specs.declared.section.Section.{Section}
 use Rattle.tl_cert.specs.declared.certificate.Claim.{Claim}
@@ -14,7 +14,8 @@ use Rattle.tl_cert.specs.Pieces.{TextPiece, field, word, spell}
 use Rattle.tl_cert.specs.Text.{space, line_feed, version_word, style_field, claim_pieces, chain_pieces, IsNarrow}
 use Rattle.tl_cert.specs.Text.{section_pieces, cert_pieces, has_area, HasChains, HasSections, HasProof, IsShaped}
 use Rattle.tl_cert.specs.inner.Areas.{Suits}
-use Rattle.tl_cert.specs.inner.CertReading.{version_at, no_lines_at, box_or_none_at, no_frame_at, style_at, lowest_at, bounded_at, narrow_at}
+use Rattle.tl_cert.specs.inner.CertReading.{version_at, no_lines_at, apart_or_none_at, rule_or_none_at, box_or_none_at}
+use Rattle.tl_cert.specs.inner.CertReading.{no_frame_at, style_at, lowest_at, bounded_at, narrow_at}
 use Rattle.tl_cert.specs.inner.CertReading.{other_claim_at, claim_at, areas_of, sections_at, proof_at, certificate_at}
 use Rattle.tl_cert.specs.inner.reading.Readings.{◌>>=◌, give, begins}
 use Rattle.tl_cert.specs.inner.reading.Lists.{Listing, listing}
@@ -53,8 +54,15 @@ style_pieces s = word (style_field s)
 abbrev HasNoLines : Style → Type 0
 HasNoLines style = (style ≡ Compact) ⊎ (style ≡ Plain)
 
+abbrev IsApartOrNone : Style → Type 0
+IsApartOrNone style = (style ≡ Apart) ⊎ HasNoLines style
+
+-- a style without a frame
+abbrev IsOpen : Style → Type 0
+IsOpen style = (style ≡ Rule) ⊎ IsApartOrNone style
+
 abbrev IsBoxOrNone : Style → Type 0
-IsBoxOrNone style = (style ≡ Box) ⊎ HasNoLines style
+IsBoxOrNone style = (style ≡ Box) ⊎ IsOpen style
 
 -- a style other than the frame
 abbrev IsNoFrame : Style → Type 0
@@ -64,8 +72,10 @@ style_separated : (s : Style) → (s ≡ Frame) ⊎ IsNoFrame s
 style_separated Frame = inl refl
 style_separated Grid = inr (inl refl)
 style_separated Box = inr (inr (inl refl))
-style_separated Compact = inr (inr (inr (inl refl)))
-style_separated Plain = inr (inr (inr (inr refl)))
+style_separated Rule = inr (inr (inr (inl refl)))
+style_separated Apart = inr (inr (inr (inr (inl refl))))
+style_separated Compact = inr (inr (inr (inr (inr (inl refl)))))
+style_separated Plain = inr (inr (inr (inr (inr (inr refl)))))
 
 -- a style that is this one begins as this one's word does
 style_begins : (test : ℕ → Bool) (one s : Style) (t : List ℕ) → s ≡ one →
@@ -85,26 +95,63 @@ exact_no_lines =
     exact_either (exact_sign (codes "compact ") Compact style_pieces refl) (exact_sign (codes "plain ") Plain style_pieces refl)
     chosen
 
-no_box : (s : Style) (t : List ℕ) → HasNoLines s → begins (λ c. eqb c 98) (spell (style_pieces s) ++ t) ≡ false
-no_box s t (inl is) = style_begins (λ c. eqb c 98) Compact s t is
-no_box s t (inr is) = style_begins (λ c. eqb c 98) Plain s t is
+no_apart : (s : Style) (t : List ℕ) → HasNoLines s → begins (λ c. eqb c 97) (spell (style_pieces s) ++ t) ≡ false
+no_apart s t (inl is) = style_begins (λ c. eqb c 97) Compact s t is
+no_apart s t (inr is) = style_begins (λ c. eqb c 97) Plain s t is
+
+exact_apart_or_none : Exact apart_or_none_at IsApartOrNone style_pieces
+unfolding apart_or_none_at
+exact_apart_or_none =
+    let chosen : Chosen (λ c. eqb c 97) style_pieces (λ (s : Style). s ≡ Apart) HasNoLines IsApartOrNone = record {
+      separated = λ s is. is;
+      first = λ s is. inl is;
+      other = λ s is. inr is;
+      yes = λ s t is. style_begins (λ c. eqb c 97) Apart s t is;
+      no = no_apart;
+    } in
+    exact_either (exact_sign (codes "apart ") Apart style_pieces refl) exact_no_lines chosen
+
+no_rule : (s : Style) (t : List ℕ) → IsApartOrNone s → begins (λ c. eqb c 114) (spell (style_pieces s) ++ t) ≡ false
+no_rule s t (inl is) = style_begins (λ c. eqb c 114) Apart s t is
+no_rule s t (inr (inl is)) = style_begins (λ c. eqb c 114) Compact s t is
+no_rule s t (inr (inr is)) = style_begins (λ c. eqb c 114) Plain s t is
+
+exact_rule_or_none : Exact rule_or_none_at IsOpen style_pieces
+unfolding rule_or_none_at
+exact_rule_or_none =
+    let chosen : Chosen (λ c. eqb c 114) style_pieces (λ (s : Style). s ≡ Rule) IsApartOrNone IsOpen = record {
+      separated = λ s is. is;
+      first = λ s is. inl is;
+      other = λ s is. inr is;
+      yes = λ s t is. style_begins (λ c. eqb c 114) Rule s t is;
+      no = no_rule;
+    } in
+    exact_either (exact_sign (codes "rule ") Rule style_pieces refl) exact_apart_or_none chosen
+
+no_box : (s : Style) (t : List ℕ) → IsOpen s → begins (λ c. eqb c 98) (spell (style_pieces s) ++ t) ≡ false
+no_box s t (inl is) = style_begins (λ c. eqb c 98) Rule s t is
+no_box s t (inr (inl is)) = style_begins (λ c. eqb c 98) Apart s t is
+no_box s t (inr (inr (inl is))) = style_begins (λ c. eqb c 98) Compact s t is
+no_box s t (inr (inr (inr is))) = style_begins (λ c. eqb c 98) Plain s t is
 
 exact_box_or_none : Exact box_or_none_at IsBoxOrNone style_pieces
 unfolding box_or_none_at
 exact_box_or_none =
-    let chosen : Chosen (λ c. eqb c 98) style_pieces (λ (s : Style). s ≡ Box) HasNoLines IsBoxOrNone = record {
+    let chosen : Chosen (λ c. eqb c 98) style_pieces (λ (s : Style). s ≡ Box) IsOpen IsBoxOrNone = record {
       separated = λ s is. is;
       first = λ s is. inl is;
       other = λ s is. inr is;
       yes = λ s t is. style_begins (λ c. eqb c 98) Box s t is;
       no = no_box;
     } in
-    exact_either (exact_sign (codes "box ") Box style_pieces refl) exact_no_lines chosen
+    exact_either (exact_sign (codes "box ") Box style_pieces refl) exact_rule_or_none chosen
 
 no_grid : (s : Style) (t : List ℕ) → IsBoxOrNone s → begins (λ c. eqb c 103) (spell (style_pieces s) ++ t) ≡ false
 no_grid s t (inl is) = style_begins (λ c. eqb c 103) Box s t is
-no_grid s t (inr (inl is)) = style_begins (λ c. eqb c 103) Compact s t is
-no_grid s t (inr (inr is)) = style_begins (λ c. eqb c 103) Plain s t is
+no_grid s t (inr (inl is)) = style_begins (λ c. eqb c 103) Rule s t is
+no_grid s t (inr (inr (inl is))) = style_begins (λ c. eqb c 103) Apart s t is
+no_grid s t (inr (inr (inr (inl is)))) = style_begins (λ c. eqb c 103) Compact s t is
+no_grid s t (inr (inr (inr (inr is)))) = style_begins (λ c. eqb c 103) Plain s t is
 
 exact_no_frame : Exact no_frame_at IsNoFrame style_pieces
 unfolding no_frame_at
@@ -121,8 +168,10 @@ exact_no_frame =
 no_frame : (s : Style) (t : List ℕ) → IsNoFrame s → begins (λ c. eqb c 102) (spell (style_pieces s) ++ t) ≡ false
 no_frame s t (inl is) = style_begins (λ c. eqb c 102) Grid s t is
 no_frame s t (inr (inl is)) = style_begins (λ c. eqb c 102) Box s t is
-no_frame s t (inr (inr (inl is))) = style_begins (λ c. eqb c 102) Compact s t is
-no_frame s t (inr (inr (inr is))) = style_begins (λ c. eqb c 102) Plain s t is
+no_frame s t (inr (inr (inl is))) = style_begins (λ c. eqb c 102) Rule s t is
+no_frame s t (inr (inr (inr (inl is)))) = style_begins (λ c. eqb c 102) Apart s t is
+no_frame s t (inr (inr (inr (inr (inl is))))) = style_begins (λ c. eqb c 102) Compact s t is
+no_frame s t (inr (inr (inr (inr (inr is))))) = style_begins (λ c. eqb c 102) Plain s t is
 
 exact_style : Exact style_at IsAny style_pieces
 unfolding style_at

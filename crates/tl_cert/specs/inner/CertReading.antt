@@ -3,7 +3,7 @@ use Rattle.std.specs.Prelude.{ℕ, suc, ◌+◌, ◌*◌, nat_lt, Bool, true, fa
 use Rattle.std.specs.Prelude.{Some, None, if◌then◌else◌}
 use Rattle.std.specs.Char.{is_ascii_digit}
 use Rattle.tl_base.specs.declared.style.Style.{Style}
-use Rattle.tl_base.specs.declared.style.Style.TheVariants.{Plain, Compact, Frame, Grid, Box}
+use Rattle.tl_base.specs.declared.style.Style.TheVariants.{Plain, Compact, Frame, Grid, Box, Rule, Apart}
 use Rattle.tl_base.specs.declared.chain.Entry.{Entry}
 use Rattle.tl_base.specs.declared.chain.Chain.{Chain}
 use Rattle.tl_cert.specs.declared.trace.CutAt.{CutAt}
@@ -319,9 +319,17 @@ unfoldable pub no_lines_at : Reading Style
 no_lines_at = either (λ c. c == 99) (word_at (codes "compact ") >>= λ _. give Compact)
     (word_at (codes "plain ") >>= λ _. give Plain)
 
--- a box, or a style that has no lines, and the space after it
+-- rows that stand apart, or a style that has no lines, and the space after it
+unfoldable pub apart_or_none_at : Reading Style
+apart_or_none_at = either (λ c. c == 97) (word_at (codes "apart ") >>= λ _. give Apart) no_lines_at
+
+-- a style without a frame, and the space after it
+unfoldable pub rule_or_none_at : Reading Style
+rule_or_none_at = either (λ c. c == 114) (word_at (codes "rule ") >>= λ _. give Rule) apart_or_none_at
+
+-- a box, or a style without a frame, and the space after it
 unfoldable pub box_or_none_at : Reading Style
-box_or_none_at = either (λ c. c == 98) (word_at (codes "box ") >>= λ _. give Box) no_lines_at
+box_or_none_at = either (λ c. c == 98) (word_at (codes "box ") >>= λ _. give Box) rule_or_none_at
 
 -- a style other than the frame, and the space after it
 unfoldable pub no_frame_at : Reading Style

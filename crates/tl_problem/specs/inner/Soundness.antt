@@ -19,7 +19,7 @@ use Rattle.tl_problem.specs.inner.Spanning.{slot_of}
 
 -- so many columns and rows, with no cells and no page: what a cell alone is tested against
 abbrev pub grid : ℕ → ℕ → ProblemModel
-grid cols rows = record { cols = cols; rows = rows; spacing = spacing_of Plain; width = 0; cells = [] }
+grid cols rows = record { cols = cols; rows = rows; spacing = spacing_of Plain 0; width = 0; cells = [] }
 
 -- where no more than `h` lines are needed by `high`, no more are needed by `low`
 abbrev pub IsNowhereAbove : List Config → List Config → Type 0
