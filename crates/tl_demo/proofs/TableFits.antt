@@ -143,7 +143,7 @@ no_layouts cells = map (λ cell. []) cells
 -- each cell fits in the room that its place has there
 cells_fit : (table : OpenTable) (cells : List TableCell) → AllByRecursion IsDrawnTableCell cells →
     AllByRecursion (λ cell. IsPlaced table.cols table.rows (place_of cell)) cells →
-    AllZip (λ cell inner. FitsCell FitsInner Plain (layout_in table) (out-TableCell cell) inner) cells (no_layouts cells)
+    AllZip (λ cell inner. FitsCell FitsInner Plain table (layout_in table) (out-TableCell cell) inner) cells (no_layouts cells)
 unfolding no_layouts
 cells_fit table [] drawn placed = tt
 cells_fit table (cell ∷ cells) drawn placed =
@@ -151,12 +151,12 @@ cells_fit table (cell ∷ cells) drawn placed =
     let at = placed.0 in
     let wide : 8 ≤ width_for Plain (layout_in table) (place_of cell) =
     room-equal 2 table.cols 8 (place_of cell).left (place_of cell).right at.0 at.1 in
-    let high : 6 ≤ height_for Plain (layout_in table) (place_of cell) =
-    room-equal 0 table.rows 6 (place_of cell).top (place_of cell).bottom at.2 at.3 in
+    let high : 6 ≤ height_for Plain table (layout_in table) (place_of cell) =
+    omega (arith, room-equal 0 table.rows 6 (place_of cell).top (place_of cell).bottom at.2 at.3) in
     let fits = cell_fits (width_for Plain (layout_in table) (place_of cell))
-    (height_for Plain (layout_in table) (place_of cell)) is.0 is.1 wide high is.2 in (
+    (height_for Plain table (layout_in table) (place_of cell)) is.0 is.1 wide high is.2 in (
       subst (λ (one : TableCell). FitsRoom FitsInner (width_for Plain (layout_in table) (place_of cell))
-          (height_for Plain (layout_in table) (place_of cell))
+          (height_for Plain table (layout_in table) (place_of cell))
           (out-TableCell one) []) (sym is.3) fits,
       cells_fit table cells drawn.1 placed.1,
     )
@@ -183,9 +183,9 @@ pub table_fits : (table : Table) → IsSound table → (out-Table table).cols �
 table_fits table sound narrow drawn =
     let t = out-Table table in
     let grid = grid_of table sound.depth sound.sound in (
-      total_height Plain (layout_in t),
+      total_height Plain t (layout_in t),
       roll-Layout (layout_in t),
-      fits-rolled Plain table DEMO_WIDTH (total_height Plain (layout_in t)) (layout_in t) (record {
+      fits-rolled Plain table DEMO_WIDTH (total_height Plain t (layout_in t)) (layout_in t) (record {
         columns = length-replicate {A = ℕ} t.cols 8;
         rows = length-replicate {A = ℕ} t.rows 6;
         within = omega (arith, total_narrow t.cols narrow);

@@ -9,7 +9,7 @@ use Rattle.tl_table.specs.declared.cell.Table.{Table, out-Table}
 use Rattle.tl_table.specs.declared.cell.TableCell.{TableCell, out-TableCell}
 use Rattle.tl_table.specs.declared.layout.Layout.{Layout, out-Layout}
 use Rattle.tl_table.specs.Layouts.{OpenLayout, Share, FitsShare, FitsCell, FitsWithin}
-use Rattle.tl_table.specs.Tables.{OpenContent, tables_of, tables_in}
+use Rattle.tl_table.specs.Tables.{OpenContent, OpenTable, tables_of, tables_in}
 use Rattle.tl_html.specs.Laws.{AFittingLayoutHasColumns}
 use Rattle.tl_html.specs.Readable.{HasColumnsWithin}
 
@@ -32,18 +32,18 @@ module _ (fits : Table → ℕ → ℕ → Layout → Type 0) (has : Table → L
       (flat_map (λ (other : Share). other.inner) shares) (share_columns w (out-Content block) share laid.0)
       (shares_columns w blocks shares laid.1)
 
-  cells_columns : (style : Style) (layout : OpenLayout) (cells : List TableCell) (parts : List (List Layout)) →
-      AllZip (λ cell inner. FitsCell fits style layout (out-TableCell cell) inner) cells parts →
+  cells_columns : (style : Style) (table : OpenTable) (layout : OpenLayout) (cells : List TableCell) (parts : List (List Layout)) →
+      AllZip (λ cell inner. FitsCell fits style table layout (out-TableCell cell) inner) cells parts →
       AllZip has (flat_map (λ cell. tables_in (out-TableCell cell)) cells) (flat_map (λ inner. inner) parts)
-  cells_columns style layout [] [] laid = tt
-  cells_columns style layout [] (inner ∷ parts) laid = absurd laid
-  cells_columns style layout (cell ∷ cells) [] laid = absurd laid
-  cells_columns style layout (cell ∷ cells) (inner ∷ parts) laid =
+  cells_columns style table layout [] [] laid = tt
+  cells_columns style table layout [] (inner ∷ parts) laid = absurd laid
+  cells_columns style table layout (cell ∷ cells) [] laid = absurd laid
+  cells_columns style table layout (cell ∷ cells) (inner ∷ parts) laid =
       AllZip-append has (tables_in (out-TableCell cell)) (flat_map (λ other. tables_in (out-TableCell other)) cells) inner
       (flat_map (λ more. more) parts)
       (subst (AllZip has (tables_in (out-TableCell cell))) laid.0.given
       (shares_columns _ (out-TableCell cell).blocks laid.0.shares laid.0.blocks))
-      (cells_columns style layout cells parts laid.1)
+      (cells_columns style table layout cells parts laid.1)
 
 columns_within : (depth : ℕ) (style : Style) (table : Table) (width height : ℕ) (layout : Layout) →
     FitsWithin depth style table width height layout →
@@ -53,8 +53,8 @@ columns_within (suc depth) style table width height layout fits = record {
   columns = fits.columns;
   inner = subst (AllZip (HasColumnsWithin depth) (flat_map (λ cell. tables_in (out-TableCell cell)) (out-Table table).cells))
       fits.given
-      (cells_columns (FitsWithin depth style) (HasColumnsWithin depth) (columns_within depth style) style (out-Layout layout)
-      (out-Table table).cells
+      (cells_columns (FitsWithin depth style) (HasColumnsWithin depth) (columns_within depth style) style (out-Table table)
+      (out-Layout layout) (out-Table table).cells
       fits.parts fits.cells);
 }
 

@@ -11,7 +11,7 @@ use Rattle.tl_table.specs.declared.cell.Table.{Table, out-Table}
 use Rattle.tl_table.specs.declared.cell.TableCell.{out-TableCell}
 use Rattle.tl_table.specs.declared.layout.Layout.{Layout, roll-Layout, out-roll-Layout}
 use Rattle.tl_table.specs.Tables.{OpenTable, OpenCell, OpenContent}
-use Rattle.tl_table.specs.Layouts.{OpenLayout, Share, Fits, FitsBy, FitsCell, FitsRoom, FitsShare, FitsWithin}
+use Rattle.tl_table.specs.Layouts.{OpenLayout, Share, Fits, FitsBy, FitsCell, FitsRoom, FitsShare, FitsWithin, height_for, width_for}
 use Rattle.tl_table.proofs.Deeper.{FitsShare-weaker, FitsRoom-weaker, FitsWithin-deeper}
 
 -- ---- one depth for all
@@ -72,19 +72,17 @@ module _ (style : Style) where
       FitsBy FitsAny style table width height layout →
       (depth : ℕ) × FitsBy (FitsWithin depth style) style table width height layout
   fits-from_any table width height layout held =
-      let all = gather (λ depth cell inner. FitsCell (FitsWithin depth style) style layout (out-TableCell cell) inner)
+      let all = gather (λ depth cell inner. FitsCell (FitsWithin depth style) style table layout (out-TableCell cell) inner)
       (λ more depth cell inner one. FitsRoom-weaker (FitsWithin depth style) (FitsWithin (more + depth) style)
-      (FitsWithin-deeper more depth style) (room (gap_of style) layout.widths (out-TableCell cell).place.left
-      (out-TableCell cell).place.right)
-      (room (row_gap_of style) layout.heights (out-TableCell cell).place.top (out-TableCell cell).place.bottom)
+      (FitsWithin-deeper more depth style) (width_for style layout (out-TableCell cell).place)
+      (height_for style table layout (out-TableCell cell).place)
       (out-TableCell cell) inner one)
       table.cells held.parts
-      (AllZip-weaker (λ cell inner. FitsCell FitsAny style layout (out-TableCell cell) inner)
-      (λ cell inner. (depth : ℕ) × FitsCell (FitsWithin depth style) style layout (out-TableCell cell) inner)
+      (AllZip-weaker (λ cell inner. FitsCell FitsAny style table layout (out-TableCell cell) inner)
+      (λ cell inner. (depth : ℕ) × FitsCell (FitsWithin depth style) style table layout (out-TableCell cell) inner)
       table.cells held.parts
-      (λ cell inner one. room-at (room (gap_of style) layout.widths (out-TableCell cell).place.left
-      (out-TableCell cell).place.right)
-      (room (row_gap_of style) layout.heights (out-TableCell cell).place.top (out-TableCell cell).place.bottom)
+      (λ cell inner one. room-at (width_for style layout (out-TableCell cell).place)
+      (height_for style table layout (out-TableCell cell).place)
       (out-TableCell cell) inner one)
       held.cells) in (
         all.0,

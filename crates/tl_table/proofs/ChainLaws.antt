@@ -7,7 +7,7 @@ use Rattle.std.proofs.lemmas.List.{take_all}
 use Rattle.std.proofs.lemmas.List.Sums.{sum_by-cons}
 use Rattle.std.proofs.lemmas.List.Elements.{recursion_from_All, All-from_recursion, All-get_or}
 use Rattle.tl_base.specs.declared.style.Style.{Style}
-use Rattle.tl_base.specs.declared.style.Style.TheVariants.{Plain, Compact, Frame, Grid, Box}
+use Rattle.tl_base.specs.declared.style.Style.TheVariants.{Plain, Compact, Frame, Grid, Box, Rule, Apart}
 use Rattle.tl_base.specs.Style.{gap_of, edges_of}
 use Rattle.tl_grid.specs.Dropping.{IsPlaced}
 use Rattle.tl_base.specs.Sizes.{room, total}
@@ -16,7 +16,7 @@ use Rattle.tl_base.specs.declared.chain.Entry.{Entry}
 use Rattle.tl_table.specs.declared.cell.Table.{Table, out-Table}
 use Rattle.tl_table.specs.declared.cell.TableCell.{TableCell, out-TableCell}
 use Rattle.tl_table.specs.declared.layout.Layout.{Layout, out-Layout}
-use Rattle.tl_table.specs.Tables.{OpenCell, tables_in}
+use Rattle.tl_table.specs.Tables.{OpenTable, OpenCell, tables_in}
 use Rattle.tl_table.specs.Layouts.{OpenLayout, FitsRoom, FitsCell, FitsWithin, width_for, height_for}
 use Rattle.tl_table.specs.Chains.{Link, HasWidth, IsLink, AreSideBySide, covered, links_weight, IsChainWithin}
 use Rattle.tl_table.specs.Sound.{IsSound, place_of, places_of, IsSoundCell}
@@ -49,6 +49,8 @@ light_more Compact width room left right from past rest many columns span wide e
 light_more Frame width room left right from past rest many columns span wide ends some order light = omega arith
 light_more Grid width room left right from past rest many columns span wide ends some order light = omega arith
 light_more Box width room left right from past rest many columns span wide ends some order light = omega arith
+light_more Rule width room left right from past rest many columns span wide ends some order light = omega arith
+light_more Apart width room left right from past rest many columns span wide ends some order light = omega arith
 
 weighs_within : (style : Style) (cols : ℕ) (widths : List ℕ) (from : ℕ) (links : List Link) → from ≤ cols →
     AllByRecursion (IsWithinRoom (gap_of style) cols widths) links → AreSideBySide from links →
@@ -90,6 +92,8 @@ in_all Compact weight many columns cols whole light some few within = omega arit
 in_all Frame weight many columns cols whole light some few within = omega arith
 in_all Grid weight many columns cols whole light some few within = omega arith
 in_all Box weight many columns cols whole light some few within = omega arith
+in_all Rule weight many columns cols whole light some few within = omega arith
+in_all Apart weight many columns cols whole light some few within = omega arith
 
 links_within : (style : Style) (cols : ℕ) (widths : List ℕ) (links : List Link) → length widths ≡ cols → 0 < length links →
     AllByRecursion (IsWithinRoom (gap_of style) cols widths) links → AreSideBySide 0 links →
@@ -132,23 +136,23 @@ module _ (style : Style) (depth : ℕ)
       never wide.0 link.inner link.width w one.0 one.1 fitted good wide.3 one.2
 
   -- the cell of a number fits by some part of the layout
-  cell_fits : (fitted : ℕ) (layout : OpenLayout) (cells : List TableCell) (parts : List (List Layout)) (k : ℕ)
+  cell_fits : (fitted : ℕ) (table : OpenTable) (layout : OpenLayout) (cells : List TableCell) (parts : List (List Layout)) (k : ℕ)
       (cell : TableCell) →
       slice_get cells k ≡ Some cell →
-      AllZip (λ one inner. FitsCell (FitsWithin fitted style) style layout (out-TableCell one) inner) cells parts →
-      (inner : List Layout) × FitsCell (FitsWithin fitted style) style layout (out-TableCell cell) inner
-  cell_fits fitted layout [] parts k cell named fits = let no : None ≡ Some cell = named in cc
-  cell_fits fitted layout (one ∷ cells) [] k cell named fits = absurd fits
-  cell_fits fitted layout (one ∷ cells) (inner ∷ parts) zero cell named fits = let same : Some one ≡ Some cell = named in
+      AllZip (λ one inner. FitsCell (FitsWithin fitted style) style table layout (out-TableCell one) inner) cells parts →
+      (inner : List Layout) × FitsCell (FitsWithin fitted style) style table layout (out-TableCell cell) inner
+  cell_fits fitted table layout [] parts k cell named fits = let no : None ≡ Some cell = named in cc
+  cell_fits fitted table layout (one ∷ cells) [] k cell named fits = absurd fits
+  cell_fits fitted table layout (one ∷ cells) (inner ∷ parts) zero cell named fits = let same : Some one ≡ Some cell = named in
       let is : one ≡ cell =
-      cc in (inner, subst (λ it. FitsCell (FitsWithin fitted style) style layout (out-TableCell it) inner) is fits.0)
-  cell_fits fitted layout (one ∷ cells) (inner ∷ parts) (suc k) cell named fits =
-      cell_fits fitted layout cells parts k cell named fits.1
+      cc in (inner, subst (λ it. FitsCell (FitsWithin fitted style) style table layout (out-TableCell it) inner) is fits.0)
+  cell_fits fitted table layout (one ∷ cells) (inner ∷ parts) (suc k) cell named fits =
+      cell_fits fitted table layout cells parts k cell named fits.1
 
   links_in_rooms : (table : Table) (fitted : ℕ) (layout : OpenLayout) (parts : List (List Layout)) (entries : List Entry)
       (links : List Link) →
       IsSound table →
-      AllZip (λ one inner. FitsCell (FitsWithin fitted style) style layout (out-TableCell one) inner)
+      AllZip (λ one inner. FitsCell (FitsWithin fitted style) style (out-Table table) layout (out-TableCell one) inner)
       (out-Table table).cells parts →
       AllZip (λ entry link. IsLink (IsChainWithin depth style) (out-Table table) entry link) entries links →
       AllByRecursion (IsWithinRoom (gap_of style) (out-Table table).cols layout.widths) links
@@ -156,7 +160,7 @@ module _ (style : Style) (depth : ℕ)
   links_in_rooms table fitted layout parts [] (link ∷ links) sound fits stand = absurd stand
   links_in_rooms table fitted layout parts (entry ∷ entries) (link ∷ links) sound fits stand =
       let one = stand.0 in
-      let here = cell_fits fitted layout (out-Table table).cells parts entry.cell one.cell one.named fits in
+      let here = cell_fits fitted (out-Table table) layout (out-Table table).cells parts entry.cell one.cell one.named fits in
       let at : IsPlaced (out-Table table).cols (out-Table table).rows (place_of one.cell) =
       placed_at (out-Table table).cells entry.cell one.cell one.named
       (recursion_from_All (IsPlaced (out-Table table).cols (out-Table table).rows) (places_of (out-Table table))
@@ -168,7 +172,7 @@ module _ (style : Style) (depth : ℕ)
           some = subst (λ place. place.left < place.right) (sym one.placed) at.0;
           inside = subst (λ place. place.right ≤ (out-Table table).cols) (sym one.placed) at.1;
           wide = subst (λ place. link.width ≤ room (gap_of style) layout.widths place.left place.right) (sym one.placed)
-              (link_wide fitted (width_for style layout (place_of one.cell)) (height_for style layout (place_of one.cell))
+              (link_wide fitted (width_for style layout (place_of one.cell)) (height_for style (out-Table table) layout (place_of one.cell))
               (out-TableCell one.cell)
               here.0 entry.inner link good one.wide here.1);
         },

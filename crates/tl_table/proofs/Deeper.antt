@@ -45,8 +45,8 @@ module _ (some more : Table → ℕ → ℕ → Layout → Type 0)
     within = fits.within;
     high = fits.high;
     parts = fits.parts;
-    cells = AllZip-weaker (λ cell inner. FitsCell some style layout (out-TableCell cell) inner)
-        (λ cell inner. FitsCell more style layout (out-TableCell cell) inner) table.cells fits.parts
+    cells = AllZip-weaker (λ cell inner. FitsCell some style table layout (out-TableCell cell) inner)
+        (λ cell inner. FitsCell more style table layout (out-TableCell cell) inner) table.cells fits.parts
         (λ cell inner one. FitsRoom-weaker _ _ (out-TableCell cell) inner one) fits.cells;
     given = fits.given;
   }

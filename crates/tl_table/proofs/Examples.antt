@@ -64,9 +64,6 @@ spanned_room = refl
 spanned_width : total_width Plain spanned_layout ≡ 6
 spanned_width = refl
 
-spanned_height : total_height Plain spanned_layout ≡ 2
-spanned_height = refl
-
 -- in a compact table there is one column between two, and no edge
 compact_width : total_width Compact spanned_layout ≡ 5
 compact_width = refl
@@ -176,6 +173,9 @@ spanned = record {
       (cell below_left 0 (bb ∷ [])) ∷ roll-TableCell (cell below_right 0 (c ∷ [])) ∷ [];
 }
 
+spanned_height : total_height Plain spanned spanned_layout ≡ 2
+spanned_height = refl
+
 spanned_fits : (fits : Table → ℕ → ℕ → Layout → Type 0) → FitsBy fits Plain spanned 6 2 spanned_layout
 unfolding unicode_width
 spanned_fits fits = record {
@@ -185,14 +185,14 @@ spanned_fits fits = record {
   high = refl;
   parts = [] ∷ [] ∷ [] ∷ [];
   cells = (
-    subst (λ open_cell. FitsCell fits Plain spanned_layout open_cell []) (sym (out-roll-TableCell (cell over_both 0 (aaaa ∷ []))))
+    subst (λ open_cell. FitsCell fits Plain spanned spanned_layout open_cell []) (sym (out-roll-TableCell (cell over_both 0 (aaaa ∷ []))))
         (cell_fits fits 6 0 over_both aaaa [] (omega arith) refl (omega arith)),
     (
-      subst (λ open_cell. FitsCell fits Plain spanned_layout open_cell [])
+      subst (λ open_cell. FitsCell fits Plain spanned spanned_layout open_cell [])
           (sym (out-roll-TableCell (cell below_left 0 (bb ∷ []))))
           (cell_fits fits 2 0 below_left bb [] (omega arith) refl (omega arith)),
       (
-        subst (λ open_cell. FitsCell fits Plain spanned_layout open_cell [])
+        subst (λ open_cell. FitsCell fits Plain spanned spanned_layout open_cell [])
             (sym (out-roll-TableCell (cell below_right 0 (c ∷ []))))
             (cell_fits fits 2 0 below_right c [] (omega arith) refl (omega arith)),
         tt,

@@ -6,7 +6,7 @@ use Rattle.std.specs.List.{All}
 use Rattle.std.proofs.lemmas.List.{length-map}
 use Rattle.tl_base.specs.declared.limits.TheConstants.{MAX_COLUMNS}
 use Rattle.tl_base.specs.declared.style.Style.{Style}
-use Rattle.tl_base.specs.declared.style.Style.TheVariants.{Plain, Compact, Frame, Grid, Box}
+use Rattle.tl_base.specs.declared.style.Style.TheVariants.{Plain, Compact, Frame, Grid, Box, Rule, Apart}
 use Rattle.tl_base.specs.Style.{gap_of, edges_of}
 use Rattle.tl_diff.specs.declared.paths.Arc.{Arc}
 use Rattle.tl_diff.specs.Paths.{IsPath, IsHeaviest, path_weight}
@@ -122,4 +122,8 @@ small_found Frame cols w sum gap edges few light is also = let g : gap * (cols -
 small_found Grid cols w sum gap edges few light is also = let g : gap * (cols - 1) ≡ 1 * (cols - 1) =
     ap (λ k. k * (cols - 1)) is in omega arith
 small_found Box cols w sum gap edges few light is also = let g : gap * (cols - 1) ≡ 1 * (cols - 1) =
+    ap (λ k. k * (cols - 1)) is in omega arith
+small_found Rule cols w sum gap edges few light is also = let g : gap * (cols - 1) ≡ 1 * (cols - 1) =
+    ap (λ k. k * (cols - 1)) is in omega arith
+small_found Apart cols w sum gap edges few light is also = let g : gap * (cols - 1) ≡ 1 * (cols - 1) =
     ap (λ k. k * (cols - 1)) is in omega arith

@@ -118,7 +118,7 @@ pub some_layout : (style : Style) (table : OpenTable) (demands : List Demand) (w
     FitsBy (FitsWithin depth style) style table (total (gap_of style) (edges_of style) widths) height layout
 some_layout style table demands widths placed those give = (
   held.depth,
-  total_height style layout,
+  total_height style table layout,
   layout,
   record {
     columns = give.columns;
@@ -130,11 +130,14 @@ some_layout style table demands widths placed those give = (
         (λ cell inner. FitsRoom (FitsWithin held.depth style)
         (room (gap_of style) widths (place_of cell).left (place_of cell).right) held.height
         (out-TableCell cell) inner)
-        (λ cell inner. FitsCell (FitsWithin held.depth style) style layout (out-TableCell cell) inner) table.cells held.parts
+        (λ cell inner. FitsCell (FitsWithin held.depth style) style table layout (out-TableCell cell) inner) table.cells held.parts
         (λ cell inner at fits. FitsRoom-higher (FitsWithin held.depth style)
         (room (gap_of style) widths (place_of cell).left (place_of cell).right)
-        held.height (height_for style layout (place_of cell)) (out-TableCell cell) inner
-        (room-equal (row_gap_of style) table.rows held.height (place_of cell).top (place_of cell).bottom at.2 at.3) fits)
+        held.height (height_for style table layout (place_of cell)) (out-TableCell cell) inner
+        (omega (
+          arith,
+          room-equal (row_gap_of style) table.rows held.height (place_of cell).top (place_of cell).bottom at.2 at.3,
+        )) fits)
         (recursion_from_All (λ cell. IsPlaced table.cols table.rows (place_of cell)) table.cells placed) held.each;
     given = refl;
   },
@@ -148,20 +151,20 @@ some_layout style table demands widths placed those give = (
 
 -- ---- a layout that fits gives each cell its room
 
-gives_rooms : (style : Style) (depth : ℕ) (layout : OpenLayout) (cells : List TableCell) (parts : List (List Layout))
+gives_rooms : (style : Style) (depth : ℕ) (table : OpenTable) (layout : OpenLayout) (cells : List TableCell) (parts : List (List Layout))
     (demands : List Demand) →
     AreDemandsOf style cells demands →
-    AllZip (λ cell inner. FitsCell (FitsWithin depth style) style layout (out-TableCell cell) inner) cells parts →
+    AllZip (λ cell inner. FitsCell (FitsWithin depth style) style table layout (out-TableCell cell) inner) cells parts →
     AllByRecursion (λ demand. demand.width ≤ room (gap_of style) layout.widths demand.left demand.right) demands
-gives_rooms style depth layout [] parts [] those fits = tt
-gives_rooms style depth layout [] parts (demand ∷ demands) those fits = absurd those
-gives_rooms style depth layout (cell ∷ cells) parts [] those fits = absurd those
-gives_rooms style depth layout (cell ∷ cells) [] (demand ∷ demands) those fits = absurd fits
-gives_rooms style depth layout (cell ∷ cells) (inner ∷ parts) (demand ∷ demands) those fits = (
+gives_rooms style depth table layout [] parts [] those fits = tt
+gives_rooms style depth table layout [] parts (demand ∷ demands) those fits = absurd those
+gives_rooms style depth table layout (cell ∷ cells) parts [] those fits = absurd those
+gives_rooms style depth table layout (cell ∷ cells) [] (demand ∷ demands) those fits = absurd fits
+gives_rooms style depth table layout (cell ∷ cells) (inner ∷ parts) (demand ∷ demands) those fits = (
   subst (λ from. demand.width ≤ room (gap_of style) layout.widths from demand.right) (sym those.0.left)
       (subst (λ past. demand.width ≤ room (gap_of style) layout.widths (place_of cell).left past) (sym those.0.right)
-      (those.0.room.least depth (width_for style layout (place_of cell)) (height_for style layout (place_of cell)) inner fits.0)),
-  gives_rooms style depth layout cells parts demands those.1 fits.1,
+      (those.0.room.least depth (width_for style layout (place_of cell)) (height_for style table layout (place_of cell)) inner fits.0)),
+  gives_rooms style depth table layout cells parts demands those.1 fits.1,
 )
 
 not_narrower : (style : Style) (table : Table) (demands : List Demand) (weight : ℕ) →
@@ -177,7 +180,7 @@ not_narrower style table demands weight those least other height (suc depth) lay
         columns = fits.columns;
         each = All-from_recursion (λ demand. demand.width ≤ room (gap_of style)
             (out-Layout layout).widths demand.left demand.right) demands
-            (gives_rooms style depth (out-Layout layout) (out-Table table).cells fits.parts demands those fits.cells);
+            (gives_rooms style depth (out-Table table) (out-Layout layout) (out-Table table).cells fits.parts demands those fits.cells);
       }),
     )
 

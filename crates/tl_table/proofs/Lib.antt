@@ -45,6 +45,7 @@ pub mod NumberLemmas
 mod SameExamples
 mod Unsound
 pub mod SameTables
+pub mod SameHeads
 pub mod SameFits
 pub mod SameChains
 pub mod SameShapes

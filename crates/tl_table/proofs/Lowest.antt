@@ -213,13 +213,13 @@ split_of fits w h layout by = at layout.widths layout.heights layout.inner refl 
         now : OpenLayout
         now = record { widths = a ∷ b ∷ []; heights = c ∷ d ∷ []; inner = inner }
 
-        cells : (parts : List (List Layout)) → AllZip (λ one part. FitsCell fits Plain now (out-TableCell one) part)
+        cells : (parts : List (List Layout)) → AllZip (λ one part. FitsCell fits Plain spanned now (out-TableCell one) part)
             spanned.cells parts → Split w h
         cells [] all = absurd all
         cells (p ∷ []) all = absurd all.1
         cells (p ∷ q ∷ parts) all =
-            let top = subst (λ one. FitsCell fits Plain now one p) (out-roll-TableCell (cell over_both 0 three)) all.0 in
-            let low = subst (λ one. FitsCell fits Plain now one q) (out-roll-TableCell (cell below_left 0 (x ∷ []))) all.1.0 in
+            let top = subst (λ one. FitsCell fits Plain spanned now one p) (out-roll-TableCell (cell over_both 0 three)) all.0 in
+            let low = subst (λ one. FitsCell fits Plain spanned now one q) (out-roll-TableCell (cell below_left 0 (x ∷ []))) all.1.0 in
             let wide : FitsParagraph (a + b + 2) three c = room_as (a + b + 2) c (omega arith) (omega arith)
             (in_room fits _ _ over_both 0 three p top) in
             let lower : FitsParagraph a (x ∷ []) d = row_as a d (omega arith) (omega arith)
@@ -314,9 +314,9 @@ wide_layout = record { widths = 1 ∷ 4 ∷ []; heights = 2 ∷ 1 ∷ []; inner 
 abbrev narrow_layout : OpenLayout
 narrow_layout = record { widths = 1 ∷ 2 ∷ []; heights = 3 ∷ 1 ∷ []; inner = [] }
 
-rolled : (fits : Table → ℕ → ℕ → Layout → Type 0) (layout : OpenLayout) (one : OpenCell) → FitsCell fits Plain layout one [] →
-    FitsCell fits Plain layout (out-TableCell (roll-TableCell one)) []
-rolled fits layout one fit = subst (λ open_cell. FitsCell fits Plain layout open_cell []) (sym (out-roll-TableCell one)) fit
+rolled : (fits : Table → ℕ → ℕ → Layout → Type 0) (layout : OpenLayout) (one : OpenCell) → FitsCell fits Plain spanned layout one [] →
+    FitsCell fits Plain spanned layout (out-TableCell (roll-TableCell one)) []
+rolled fits layout one fit = subst (λ open_cell. FitsCell fits Plain spanned layout open_cell []) (sym (out-roll-TableCell one)) fit
 
 wide_fits : (fits : Table → ℕ → ℕ → Layout → Type 0) → FitsBy fits Plain spanned 9 3 wide_layout
 wide_fits fits = record {
@@ -442,13 +442,13 @@ none_at_6 fits h layout by = at layout.widths layout.heights layout.inner by
         now : OpenLayout
         now = record { widths = a ∷ b ∷ []; heights = heights; inner = inner }
 
-        cells : (parts : List (List Layout)) → AllZip (λ one part. FitsCell fits Plain now (out-TableCell one) part)
+        cells : (parts : List (List Layout)) → AllZip (λ one part. FitsCell fits Plain floored now (out-TableCell one) part)
             floored.cells parts → ⊥
         cells [] all = all
         cells (p ∷ []) all = all.1
         cells (p ∷ q ∷ parts) all =
-            let first = subst (λ one. FitsCell fits Plain now one p) (out-roll-TableCell (cell left 4 (x ∷ []))) all.0 in
-            let second = subst (λ one. FitsCell fits Plain now one q) (out-roll-TableCell (cell right 0 (x ∷ []))) all.1.0 in
+            let first = subst (λ one. FitsCell fits Plain floored now one p) (out-roll-TableCell (cell left 4 (x ∷ []))) all.0 in
+            let second = subst (λ one. FitsCell fits Plain floored now one q) (out-roll-TableCell (cell right 0 (x ∷ []))) all.1.0 in
             omega (arith, by.within, first.floor, one_width _ _ (in_room fits _ _ right 0 (x ∷ []) q second))
 
 -- ---- the first table in the one cell of another
@@ -486,18 +486,18 @@ module _ (box : Box Table Global) (is : box.value ≡ roll-Table spanned) where
               (ap out-Table is ∙ out-roll-Table spanned) fits)
 
           cells : (parts : List (List Layout)) →
-              AllZip (λ one part. FitsCell (FitsWithin depth Plain) Plain now (out-TableCell one) part)
+              AllZip (λ one part. FitsCell (FitsWithin depth Plain) Plain (outer box) now (out-TableCell one) part)
               (outer box).cells parts → least ≤ h
           cells [] all = absurd all
           cells (p ∷ parts) all = shares room.shares room.blocks room.within
             where
-              room : FitsCell (FitsWithin depth Plain) Plain now (around box) p
-              room = subst (λ one. FitsCell (FitsWithin depth Plain) Plain now one p) (out-roll-TableCell (around box)) all.0
+              room : FitsCell (FitsWithin depth Plain) Plain (outer box) now (around box) p
+              room = subst (λ one. FitsCell (FitsWithin depth Plain) Plain (outer box) now one p) (out-roll-TableCell (around box)) all.0
 
               shares : (given : List Share) →
                   AllZip (λ block share. FitsShare (FitsWithin depth Plain) (width_for Plain now left) (out-Content block)
                   share) (around box).blocks given →
-                  sum_by (λ share. share.height) given ≤ height_for Plain now left → least ≤ h
+                  sum_by (λ share. share.height) given ≤ height_for Plain (outer box) now left → least ≤ h
               shares [] blocks within = absurd blocks
               shares (share ∷ given) blocks within =
                   let own = subst (λ block. FitsShare (FitsWithin depth Plain) (width_for Plain now left) block share)
@@ -531,7 +531,7 @@ module _ (box : Box Table Global) (is : box.value ≡ roll-Table spanned) where
           high = omega arith;
           parts = (roll-Layout layout ∷ []) ∷ [];
           cells = (
-            subst (λ one. FitsCell (FitsWithin 1 Plain) Plain made one (roll-Layout layout ∷ []))
+            subst (λ one. FitsCell (FitsWithin 1 Plain) Plain (outer box) made one (roll-Layout layout ∷ []))
                 (sym (out-roll-TableCell (around box))) (record {
                   floor = omega arith;
                   shares = record { height = h; inner = roll-Layout layout ∷ [] } ∷ [];

@@ -7,7 +7,7 @@ use Rattle.std.proofs.lemmas.List.{length-map}
 use Rattle.std.proofs.lemmas.List.Sums.{sum_by-cons}
 use Rattle.std.proofs.lemmas.Option.{slice_get_within, get_or_from_slice_get}
 use Rattle.tl_base.specs.declared.style.Style.{Style}
-use Rattle.tl_base.specs.declared.style.Style.TheVariants.{Plain, Compact, Frame, Grid, Box}
+use Rattle.tl_base.specs.declared.style.Style.TheVariants.{Plain, Compact, Frame, Grid, Box, Rule, Apart}
 use Rattle.tl_base.specs.Style.{gap_of, edges_of}
 use Rattle.tl_diff.specs.Paths.{arc_at, IsPath, IsHeaviest, path_weight}
 use Rattle.tl_table.specs.declared.widest.Demand.{Demand}
@@ -36,6 +36,8 @@ weigh_more Compact widths many weight columns width arc span before is some = om
 weigh_more Frame widths many weight columns width arc span before is some = omega arith
 weigh_more Grid widths many weight columns width arc span before is some = omega arith
 weigh_more Box widths many weight columns width arc span before is some = omega arith
+weigh_more Rule widths many weight columns width arc span before is some = omega arith
+weigh_more Apart widths many weight columns width arc span before is some = omega arith
 
 -- an arc before what follows a path from its end
 follows_more : (style : Style) (cols : ℕ) (demands : List Demand) (arcs : List NumberedArc) (from i : ℕ) (is : List ℕ)
@@ -112,6 +114,8 @@ weighs_in_all Compact widths many weight columns cols is some few within = omega
 weighs_in_all Frame widths many weight columns cols is some few within = omega arith
 weighs_in_all Grid widths many weight columns cols is some few within = omega arith
 weighs_in_all Box widths many weight columns cols is some few within = omega arith
+weighs_in_all Rule widths many weight columns cols is some few within = omega arith
+weighs_in_all Apart widths many weight columns cols is some few within = omega arith
 
 -- a path with an arc names demands in a row, which weigh what it does
 pub row_of_path : (style : Style) (cols : ℕ) (demands : List Demand) (arcs : List NumberedArc) (is : List ℕ) →
@@ -136,6 +140,8 @@ weighs_alone Compact cols width some none = omega arith
 weighs_alone Frame cols width some none = omega arith
 weighs_alone Grid cols width some none = omega arith
 weighs_alone Box cols width some none = omega arith
+weighs_alone Rule cols width some none = omega arith
+weighs_alone Apart cols width some none = omega arith
 
 -- where no arc is on a heaviest path the demand of the last column alone is a row that weighs as much
 pub row_of_last : (style : Style) (cols : ℕ) (demands : List Demand) (arcs : List NumberedArc) (k : ℕ) (demand : Demand) →

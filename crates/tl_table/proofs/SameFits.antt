@@ -1,6 +1,8 @@
 -- A layout fits a page with one table where it fits that page with a table that is the same.
-use Rattle.std.proofs.Common.{◌≡◌, ◌∙◌, ℕ, zero, suc, List, [], subst, arith}
+use Rattle.std.proofs.Common.{◌≡◌, ◌∙◌, ℕ, zero, suc, ◌+◌, List, [], sym, ap, subst, arith}
 use Rattle.tl_base.specs.declared.style.Style.{Style}
+use Rattle.tl_base.specs.Sizes.{room, total}
+use Rattle.tl_base.specs.Style.{row_gap_of}
 use Rattle.tl_text.specs.declared.paragraph.Atom.{Atom}
 use Rattle.tl_table.specs.declared.cell.Content.{out-Content}
 use Rattle.tl_table.specs.declared.cell.Content.TheOpen as open_content
@@ -12,6 +14,7 @@ use Rattle.tl_table.specs.Layouts.{width_for, height_for}
 use Rattle.tl_table.specs.Least.{IsLeastWidth}
 use Rattle.tl_table.specs.Same.{AreSameContent, AreSameCell, AreSameBy, AreSame}
 use Rattle.tl_table.specs.Tables.{OpenTable, OpenCell, OpenContent}
+use Rattle.tl_table.proofs.SameHeads.{inside_same, lines_same}
 use Rattle.tl_table.proofs.SameTables.{same_opened, same_turned, zip_over}
 
 module _ (fits : Table → ℕ → ℕ → Layout → Type 0)
@@ -45,11 +48,15 @@ module _ (fits : Table → ℕ → ℕ → Layout → Type 0)
     given = fit.given;
   }
 
-  cell_same : (style : Style) (a b : OpenCell) (layout : OpenLayout) (inner : List Layout) → AreSameCell AreSame a b →
-      FitsCell fits style layout a inner → FitsCell fits style layout b inner
-  cell_same style a b layout inner is fit =
-      subst (λ place. FitsRoom fits (width_for style layout place) (height_for style layout place) b inner) is.place
-      (room_same a b (width_for style layout a.place) (height_for style layout a.place) inner is fit)
+  cell_same : (style : Style) (one other : OpenTable) (a b : OpenCell) (layout : OpenLayout) (inner : List Layout) →
+      AreSameBy AreSame one other → AreSameCell AreSame a b → FitsCell fits style one layout a inner →
+      FitsCell fits style other layout b inner
+  cell_same style one other a b layout inner are is fit =
+      subst (λ place. FitsRoom fits (width_for style layout place) (height_for style other layout place) b inner) is.place
+      (subst (λ more. FitsRoom fits (width_for style layout a.place)
+      (room (row_gap_of style) layout.heights a.place.top a.place.bottom + more) b inner)
+      (inside_same one other are style a.place)
+      (room_same a b (width_for style layout a.place) (height_for style one layout a.place) inner is fit))
 
   table_same : (style : Style) (a b : OpenTable) (width height : ℕ) (layout : OpenLayout) → AreSameBy AreSame a b →
       FitsBy fits style a width height layout → FitsBy fits style b width height layout
@@ -57,12 +64,12 @@ module _ (fits : Table → ℕ → ℕ → Layout → Type 0)
     columns = fit.columns ∙ is.cols;
     rows = fit.rows ∙ is.rows;
     within = fit.within;
-    high = fit.high;
+    high = ap (λ lines. total (row_gap_of style) lines layout.heights) (sym (lines_same a b is style)) ∙ fit.high;
     parts = fit.parts;
     cells = zip_over (λ c d. AreSameCell AreSame (out-TableCell c) (out-TableCell d))
-        (λ c inner. FitsCell fits style layout (out-TableCell c) inner)
-        (λ d inner. FitsCell fits style layout (out-TableCell d) inner)
-        (λ c d inner one. cell_same style (out-TableCell c) (out-TableCell d) layout inner one)
+        (λ c inner. FitsCell fits style a layout (out-TableCell c) inner)
+        (λ d inner. FitsCell fits style b layout (out-TableCell d) inner)
+        (λ c d inner one. cell_same style a b (out-TableCell c) (out-TableCell d) layout inner is one)
         a.cells b.cells fit.parts is.cells fit.cells;
     given = fit.given;
   }

@@ -6,13 +6,13 @@
 --   row 1  |    |  To  |   header cells; the left one covers two rows
 --   row 2  |From| A| B |   header cells; the head is rows 1 and 2, and ends at row 3
 --   row 3  | A  | -| 5 |
-use Rattle.std.specs.Prelude.{ℕ, zero, suc, Bool, true, false, ◌&&◌, ◌||◌, nat_le, nat_lt, if◌then◌else◌, List, map}
+use Rattle.std.specs.Prelude.{ℕ, zero, suc, Bool, true, false, ◌&&◌, ◌||◌, nat_le, nat_lt, if◌then◌else◌, List, map, Option, Some, None}
 use Rattle.std.specs.List.{list_all, list_any}
 use Rattle.tl_table.specs.declared.cell.Kind.{Kind}
 use Rattle.tl_table.specs.declared.cell.Kind.TheVariants as kinds
 use Rattle.tl_table.specs.declared.cell.Table.{Table, out-Table}
 use Rattle.tl_table.specs.declared.cell.TableCell.{out-TableCell}
-use Rattle.tl_table.specs.Tables.{OpenCell}
+use Rattle.tl_table.specs.Tables.{OpenCell, OpenTable}
 
 -- ---- cells
 
@@ -61,5 +61,22 @@ abbrev pub caption_height : Table → ℕ
 caption_height table = caption_rows_of (map out-TableCell (out-Table table).cells)
 
 -- the row at which the head of the table ends; without a head, that below the caption's, or the first
+abbrev pub end_of_head : OpenTable → ℕ
+end_of_head table = head_end_of (map out-TableCell table.cells) table.rows
+
+-- the same of a table that is not opened
 abbrev pub head_end : Table → ℕ
-head_end table = head_end_of (map out-TableCell (out-Table table).cells) (out-Table table).rows
+head_end table = end_of_head (out-Table table)
+
+-- ---- the line under it
+
+-- the last row, counted from 1, of the head of these cells in so many rows, where a line may be drawn under it: there is a
+-- head, which a caption is no part of, and a row below it
+abbrev pub head_row_of : List OpenCell → ℕ → Option ℕ
+head_row_of cells rows =
+    let end = head_end_of cells rows in
+    if nat_lt (caption_rows_of cells) end && nat_lt end rows then Some end else None
+
+-- the last row of a table's head, where a line may be drawn under it
+abbrev pub head_row : OpenTable → Option ℕ
+head_row table = head_row_of (map out-TableCell table.cells) table.rows

@@ -4,7 +4,7 @@ ghost use Rattle.std.specs.Prelude.{◌≡◌, map};
 ghost use Rattle.std.specs.List.{list_any};
 ghost use Rattle.tl_table.specs.declared.cell.Table.{out-Table};
 ghost use Rattle.tl_table.specs.declared.cell.TableCell.{out-TableCell};
-ghost use Rattle.tl_table.specs.Heads.{caption_height, head_end, is_caption, is_header, run_end, stands_with};
+ghost use Rattle.tl_table.specs.Heads.{caption_height, head_end, head_row, is_caption, is_header, run_end, stands_with};
 ghost use Rattle.tl_table.specs.Sound.{IsSound};
 ghost use Rattle.tl_table.specs.inner.Marks.{has_mark};
 
@@ -106,5 +106,19 @@ pub fn head_end(table: &Table) -> u32
         grouped
     } else {
         run_end(table, Mark::Header)
+    }
+}
+
+/// The last row of the table's head, counted from 1, where a line may be drawn under it: the table has
+/// a head, and a row below it.
+pub fn head_row(table: &Table) -> Option<u32>
+    requires { IsSound table.now }
+    ensures { result ≡ head_row (out-Table table.now) }
+{
+    let end = head_end(table);
+    if caption_height(table) < end && end < table.rows {
+        Some(end)
+    } else {
+        None
     }
 }

@@ -5,6 +5,7 @@
 //! included, and `narrow_chain` is a chain of columns that weighs as much.
 #![tactic(auto)]
 
+mod apart;
 mod cell;
 mod count;
 mod error;
@@ -20,11 +21,12 @@ mod shape;
 mod widest;
 mod width;
 
+pub use apart::{lines_beside, lines_inside, spacing};
 pub use cell::{Content, Kind, Table, TableCell};
 pub use count::nested;
 pub use error::FormError;
 pub use forming::table;
-pub use head::{caption_height, head_end};
+pub use head::{caption_height, head_end, head_row};
 pub use laws::{
     each_number_is_of_one_table, file_spells_one_table, formed_has_few_cells,
     formed_tables_are_sound, no_cell_crosses_the_head, no_page_is_narrower_than_a_chain,
