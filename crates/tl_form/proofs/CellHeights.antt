@@ -1,5 +1,5 @@
 -- What a cell needs by one account where it has a height by another, and how much it needs at most.
-use Rattle.std.proofs.Common.{ℕ, ◌+◌, ◌*◌, ◌≤◌, List, [], ◌∷◌, sum, sum_by, refl, sym, subst, arith}
+use Rattle.std.proofs.Common.{ℕ, ◌+◌, ◌-◌, ◌*◌, ◌≤◌, List, [], ◌∷◌, sum, sum_by, refl, sym, subst, arith}
 use Rattle.std.specs.List.{AllZip, AllByRecursion}
 use Rattle.std.proofs.lemmas.List.Sums.{sum_by-cons}
 use Rattle.tl_base.proofs.Sums.{sum-cons}
@@ -16,16 +16,21 @@ use Rattle.tl_table.proofs.SoundParts.{each_joined}
 
 -- ---- by another account
 
--- heights that stand so to one another, also when they are added
+-- heights that stand so to one another, also when they are added, and when as many lines are taken from both
 pub record Adds (Rel : ℕ → ℕ → Type 0) : Type 0 where
   pub same : (n : ℕ) → Rel n n
   pub plus : (k l m n : ℕ) → Rel k l → Rel m n → Rel (k + m) (l + n)
+  pub less : (k l n : ℕ) → Rel k l → Rel (k - n) (l - n)
 
 pub adds-any : Adds (λ m n. Unit {0})
-adds-any = record { same = λ n. tt; plus = λ k l m n first second. tt }
+adds-any = record { same = λ n. tt; plus = λ k l m n first second. tt; less = λ k l n is. tt }
 
 pub adds-less : Adds (λ m n. n ≤ m)
-adds-less = record { same = λ n. omega arith; plus = λ k l m n first second. omega (arith, first, second) }
+adds-less = record {
+  same = λ n. omega arith;
+  plus = λ k l m n first second. omega (arith, first, second);
+  less = λ k l n is. omega (arith, is);
+}
 
 module _ (Rel : ℕ → ℕ → Type 0) (adds : Adds Rel) (needs others : Table → ℕ → ℕ → Type 0) (w : ℕ) where
   -- what a nested table needs the one way it needs so the other way
@@ -56,14 +61,14 @@ module _ (Rel : ℕ → ℕ → Type 0) (adds : Adds Rel) (needs others : Table 
             (adds.plus h first.0 (sum heights) (sum rest.0) first.2 rest.2)),
       )
 
-  pub cell-by : (cell : OpenCell) (h : ℕ) → AllByRecursion IsSo (tables_in cell) → CellNeeds needs cell w h →
-      (k : ℕ) × CellNeeds others cell w k × Rel h k
-  cell-by cell h so need =
+  pub cell-by : (inside : ℕ) (cell : OpenCell) (h : ℕ) → AllByRecursion IsSo (tables_in cell) → CellNeeds needs inside cell w h →
+      (k : ℕ) × CellNeeds others inside cell w k × Rel h k
+  cell-by inside cell h so need =
       let all = blocks-by cell.blocks need.heights (each_joined IsSo (λ block. tables_of (out-Content block)) cell.blocks so)
       need.blocks in (
-        sum all.0,
+        sum all.0 - inside,
         record { floor = need.floor; heights = all.0; blocks = all.1; all = refl },
-        subst (λ n. Rel n (sum all.0)) need.all all.2,
+        subst (λ n. Rel n (sum all.0 - inside)) need.all (adds.less (sum need.heights) (sum all.0) inside all.2),
       )
 
 -- ---- at most two lines for all that it holds
@@ -96,11 +101,11 @@ module _ (needs : Table → ℕ → ℕ → Type 0) (w : ℕ) where
         blocks-small blocks heights spelt.1 small.1 need.1,
       )
 
-  pub cell-small : (cell : TableCell) (h : ℕ) → AllByRecursion (λ block. IsSpeltBlock (out-Content block))
+  pub cell-small : (inside : ℕ) (cell : TableCell) (h : ℕ) → AllByRecursion (λ block. IsSpeltBlock (out-Content block))
       (out-TableCell cell).blocks →
-      AllByRecursion IsSmall (tables_in (out-TableCell cell)) → CellNeeds needs (out-TableCell cell) w h →
+      AllByRecursion IsSmall (tables_in (out-TableCell cell)) → CellNeeds needs inside (out-TableCell cell) w h →
       h + 2 ≤ 2 * cell_size cell
-  cell-small cell h spelt small need =
+  cell-small inside cell h spelt small need =
       omega (
         arith,
         need.all,

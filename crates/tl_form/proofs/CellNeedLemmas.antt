@@ -1,9 +1,9 @@
 -- What a cell needs, block by block: its heights are determined, where they begin, and their steps.
-use Rattle.std.proofs.Common.{◌≡◌, ℕ, zero, suc, ◌+◌, ◌<◌, ◌≤◌, max, List, [], ◌∷◌, ◌++◌, length, take, get_or, Option, Some}
+use Rattle.std.proofs.Common.{◌≡◌, ℕ, zero, suc, ◌+◌, ◌-◌, ◌<◌, ◌≤◌, max, List, [], ◌∷◌, ◌++◌, length, take, get_or, Option, Some}
 use Rattle.std.proofs.Common.{None}
 use Rattle.std.proofs.Common.{refl, sym, ap, subst, ◌∙◌, arith, sum}
 use Rattle.std.specs.List.{All, AllZip, AllByRecursion}
-use Rattle.std.specs.Option.{IsSomeAnd}
+use Rattle.std.specs.Option.{IsSomeAnd, option_map}
 use Rattle.std.specs.declared.alloc.Global.{Global}
 use Rattle.std.specs.declared.boxed.Box.{Box}
 use Rattle.tl_base.specs.declared.limits.TheConstants.{MAX_HEIGHT}
@@ -23,7 +23,8 @@ use Rattle.tl_table.specs.declared.cell.Table.{Table, out-Table}
 use Rattle.tl_form.specs.declared.heights.InnerSteps.{InnerSteps}
 use Rattle.tl_table.specs.Tables.{OpenCell, OpenContent, tables_of}
 use Rattle.tl_form.specs.Problems.{AreStepsOf, BlockNeeds, CellNeeds, InnerNeeds, steps_for}
-use Rattle.tl_form.specs.inner.CellSteps.{From, BlocksNeed, IsLowCell, IsPlainBlock, IsStart}
+use Rattle.tl_form.specs.inner.CellSteps.{AreLowered, From, BlocksNeed, IsLowCell, IsPlainBlock, IsStart}
+use Rattle.tl_form.proofs.LoweredSteps.{lowered-from}
 use Rattle.tl_form.proofs.NeedSteps.{AreStepsOf-same, AreStepsOf-stacked, BothNeed, height-falls, height-first, first-least}
 use Rattle.tl_form.proofs.ParagraphSteps.{lines-from_fit}
 
@@ -68,9 +69,10 @@ module _ (needs : Table → ℕ → ℕ → Type 0) (functional : IsFunctional n
   blocks-functional blocks w m n first second =
       sym first.2 ∙ ap sum (heights-functional blocks w first.0 second.0 first.1 second.1) ∙ second.2
 
-  pub cell-functional : (cell : OpenCell) (w m n : ℕ) → CellNeeds needs cell w m → CellNeeds needs cell w n → m ≡ n
-  cell-functional cell w m n first second =
-      sym first.all ∙ ap sum (heights-functional cell.blocks w first.heights second.heights first.blocks
+  pub cell-functional : (inside : ℕ) (cell : OpenCell) (w m n : ℕ) → CellNeeds needs inside cell w m → CellNeeds needs inside cell w n →
+      m ≡ n
+  cell-functional inside cell w m n first second =
+      sym first.all ∙ ap (λ heights. sum heights - inside) (heights-functional cell.blocks w first.heights second.heights first.blocks
       second.blocks) ∙ second.all
 
 -- ---- block by block
@@ -134,11 +136,15 @@ module _ (needs : Table → ℕ → ℕ → Type 0) where
   block-at (one ∷ blocks) w h (suc k) block (n ∷ ns, those, all) within is =
       block-at blocks w (sum ns) k block (ns, those.1, refl) (omega arith) is
 
-  pub cell-blocks : (cell : OpenCell) (w h : ℕ) → CellNeeds needs cell w h → BlocksNeed needs cell.blocks w h
-  cell-blocks cell w h need = (need.heights, need.blocks, need.all)
+  -- a cell needs so many lines less than its blocks as lie inside it
+  pub cell-blocks : (inside : ℕ) (cell : OpenCell) (w h : ℕ) → CellNeeds needs inside cell w h →
+      (n : ℕ) × BlocksNeed needs cell.blocks w n × (n - inside ≡ h)
+  cell-blocks inside cell w h need = (sum need.heights, (need.heights, need.blocks, refl), need.all)
 
-  pub blocks-cell : (cell : OpenCell) (w h : ℕ) → cell.least ≤ w → BlocksNeed needs cell.blocks w h → CellNeeds needs cell w h
-  blocks-cell cell w h floor all = record { floor = floor; heights = all.0; blocks = all.1; all = all.2 }
+  pub blocks-cell : (inside : ℕ) (cell : OpenCell) (w n : ℕ) → cell.least ≤ w → BlocksNeed needs cell.blocks w n →
+      CellNeeds needs inside cell w (n - inside)
+  blocks-cell inside cell w n floor all =
+      record { floor = floor; heights = all.0; blocks = all.1; all = ap (λ k. k - inside) all.2 }
 
   -- ---- where a cell begins
 
@@ -161,10 +167,11 @@ module _ (needs : Table → ℕ → ℕ → Type 0) where
         (first.0 + last.0, (first.1.0, one-more blocks block w first.0 last.0 first.1.1 last.1));
   }
 
-  pub start-all : (cell : OpenCell) (start : ℕ) → StartSoFar cell.least cell.blocks start → IsStart (CellNeeds needs cell) start
-  start-all cell start so_far = record {
-    from = λ w h need. so_far.from w h (need.floor, cell-blocks cell w h need);
-    has = λ w wide. let some = so_far.has w wide in (some.0, blocks-cell cell w some.0 some.1.0 some.1.1);
+  pub start-all : (inside : ℕ) (cell : OpenCell) (start : ℕ) → StartSoFar cell.least cell.blocks start →
+      IsStart (CellNeeds needs inside cell) start
+  start-all inside cell start so_far = record {
+    from = λ w h need. let all = cell-blocks inside cell w h need in so_far.from w all.0 (need.floor, all.1);
+    has = λ w wide. let some = so_far.has w wide in (some.0 - inside, blocks-cell inside cell w some.0 some.1.0 some.1.1);
   }
 
   -- ---- steps of the blocks so far
@@ -197,12 +204,26 @@ module _ (needs : Table → ℕ → ℕ → Type 0) where
       page before here steps of_before
       of_here are heights)
 
-  pub steps-all : (page : ℕ) (cell : OpenCell) (start : ℕ) (steps : List Config) → IsStart (CellNeeds needs cell) start →
-      StepsSoFar start page cell.blocks steps → AreStepsOf (CellNeeds needs cell) page steps
-  steps-all page cell start steps begins of =
-      AreStepsOf-same (From start (BlocksNeed needs cell.blocks)) (CellNeeds needs cell) page steps
-      (λ w h within need. blocks-cell cell w h (let some = begins.has w need.0 in some.1.floor) need.1)
-      (λ w h within need. (begins.from w h need, cell-blocks cell w h need)) of
+  -- so many lines lower they are those of the cell
+  pub steps-all : (page inside : ℕ) (cell : OpenCell) (start : ℕ) (steps low : List Config) →
+      IsStart (CellNeeds needs inside cell) start → StepsSoFar start page cell.blocks steps → AreLowered inside steps low →
+      AreStepsOf (CellNeeds needs inside cell) page low
+  steps-all page inside cell start steps low begins of lower = record {
+    decreasing = lower.decreasing;
+    within = lower.within page of.within;
+    each = λ w h within. (there w h within, back w h within);
+  } where
+    there : (w h : ℕ) → w ≤ page → height_at low w ≡ Some h → CellNeeds needs inside cell w h
+    there w h within is =
+        let high = lowered-from inside (height_at steps w) h (sym (lower.heights w) ∙ is) in
+        let need = (of.each w high.0 within).0 high.1 in
+        let some = begins.has w need.0 in
+        subst (λ k. CellNeeds needs inside cell w k) high.2 (blocks-cell inside cell w high.0 some.1.floor need.1)
+
+    back : (w h : ℕ) → w ≤ page → CellNeeds needs inside cell w h → height_at low w ≡ Some h
+    back w h within need =
+        let all = cell-blocks inside cell w h need in
+        lower.heights w ∙ ap (option_map (λ k. k - inside)) ((of.each w all.0 within).1 (begins.from w h need, all.1)) ∙ ap Some all.2
 
 -- ---- where steps begin
 
@@ -219,24 +240,24 @@ from-first needs start page h steps within of need =
     (same, subst (λ w. needs w (first_height steps)) same first.1)
 
 -- the first height of the blocks so far and of the next are together no more than that of the cell
-pub low-together : (needs : Table → ℕ → ℕ → Type 0) → IsFunctional needs → (cell : OpenCell) (page start k : ℕ) (block : Content)
-    (before here : List Config) → IsLowCell needs page cell → IsStart (CellNeeds needs cell) start → k < length cell.blocks →
-    block ≡ get_or cell.blocks k block → StepsSoFar needs start page (take k cell.blocks) before →
+pub low-together : (needs : Table → ℕ → ℕ → Type 0) → IsFunctional needs → (lines : ℕ) (cell : OpenCell) (page start k : ℕ)
+    (block : Content) (before here : List Config) → IsLowCell needs page lines cell → IsStart (CellNeeds needs lines cell) start →
+    k < length cell.blocks → block ≡ get_or cell.blocks k block → StepsSoFar needs start page (take k cell.blocks) before →
     AreStepsOf (From start (BlockNeeds needs (out-Content block))) page here →
-    first_height before + first_height here ≤ MAX_HEIGHT
-low-together needs functional cell page start k block before here low begins inside is of_before of_here =
+    first_height before + first_height here ≤ MAX_HEIGHT + lines
+low-together needs functional lines cell page start k block before here low begins inside is of_before of_here =
     let within : start ≤ page = begins.from page low.some.0 low.some.1 in
     let whole = begins.has start (omega arith) in
     let small = low.low start whole.0 begins whole.1 in
-    let all = cell-blocks needs cell start whole.0 whole.1 in
-    let first = first-blocks needs (k + 1) cell.blocks start whole.0 all in
+    let all = cell-blocks needs lines cell start whole.0 whole.1 in
+    let first = first-blocks needs (k + 1) cell.blocks start all.0 all.1 in
     let less = one-less needs (take k cell.blocks) block start first.0
     (subst (λ (blocks : List Content). BlocksNeed needs blocks start first.0) (taken_more cell.blocks k block block inside is) first.1) in
     let one = from-first (BlocksNeed needs (take k cell.blocks)) start page less.0 before within of_before less.2 in
     let other = from-first (BlockNeeds needs (out-Content block)) start page less.1 here within of_here less.3 in
     let same_one = blocks-functional needs functional (take k cell.blocks) start (first_height before) less.0 one.1 less.2 in
     let same_other = block-functional needs functional (out-Content block) start (first_height here) less.1 other.1 less.3 in
-    omega (arith, same_one, same_other, less.4, first.2, small)
+    omega (arith, same_one, same_other, less.4, first.2, all.2, small)
 
 -- below what needs no line nothing is added
 both-none : (o : Option ℕ) → both_heights o None ≡ None
@@ -284,22 +305,22 @@ module _ (needs others : Table → ℕ → ℕ → Type 0) where
   )
 
   -- the cell needs the same, whatever nested tables need
-  pub plain-cell : (cell : OpenCell) (w h : ℕ) → AllByRecursion IsPlainBlock cell.blocks → CellNeeds needs cell w h →
-      CellNeeds others cell w h
-  plain-cell cell w h plain need = record {
+  pub plain-cell : (inside : ℕ) (cell : OpenCell) (w h : ℕ) → AllByRecursion IsPlainBlock cell.blocks →
+      CellNeeds needs inside cell w h → CellNeeds others inside cell w h
+  plain-cell inside cell w h plain need = record {
     floor = need.floor;
     heights = need.heights;
     blocks = plain-blocks cell.blocks w need.heights plain need.blocks;
     all = need.all;
   }
 
-pub plain-steps : (needs others : Table → ℕ → ℕ → Type 0) (page : ℕ) (cell : OpenCell) (steps : List Config) →
-    AllByRecursion IsPlainBlock cell.blocks → AreStepsOf (CellNeeds needs cell) page steps →
-    AreStepsOf (CellNeeds others cell) page steps
-plain-steps needs others page cell steps plain of =
-    AreStepsOf-same (CellNeeds needs cell) (CellNeeds others cell) page steps
-    (λ w h within need. plain-cell needs others cell w h plain need)
-    (λ w h within need. plain-cell others needs cell w h plain need) of
+pub plain-steps : (needs others : Table → ℕ → ℕ → Type 0) (page inside : ℕ) (cell : OpenCell) (steps : List Config) →
+    AllByRecursion IsPlainBlock cell.blocks → AreStepsOf (CellNeeds needs inside cell) page steps →
+    AreStepsOf (CellNeeds others inside cell) page steps
+plain-steps needs others page inside cell steps plain of =
+    AreStepsOf-same (CellNeeds needs inside cell) (CellNeeds others inside cell) page steps
+    (λ w h within need. plain-cell needs others inside cell w h plain need)
+    (λ w h within need. plain-cell others needs inside cell w h plain need) of
 
 -- ---- a block by its kind
 

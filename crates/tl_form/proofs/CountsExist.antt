@@ -1,6 +1,5 @@
 -- A sound table that fits a page has a true problem there, and a count, and so have the tables nested in it.
-use Rattle.tl_base.specs.Style.{spacing_of}
-use Rattle.std.proofs.Common.{◌≡◌, ℕ, zero, suc, ◌≤◌, ◌⊎◌, inl, inr, List, [], ◌∷◌, length, Contains, refl, sym, subst, arith}
+use Rattle.std.proofs.Common.{◌≡◌, ℕ, zero, suc, ◌+◌, ◌≤◌, ◌⊎◌, inl, inr, List, [], ◌∷◌, length, Contains, refl, sym, subst, arith}
 use Rattle.std.specs.List.{AllZip, AllByRecursion}
 use Rattle.std.proofs.lemmas.Bool.{cases_lt}
 use Rattle.std.proofs.lemmas.List.{get_or-map, length-map}
@@ -18,9 +17,9 @@ use Rattle.tl_table.specs.declared.cell.Table.{Table, out-Table}
 use Rattle.tl_table.specs.declared.cell.TableCell.{TableCell, out-TableCell}
 use Rattle.tl_table.specs.declared.layout.Layout.{Layout, out-Layout}
 use Rattle.tl_table.specs.Tables.{OpenTable, OpenCell, inner_tables, tables_in, IsAmong}
-use Rattle.tl_table.specs.Layouts.{OpenLayout, Fits, FitsBy, FitsCell, FitsRoom, FitsWithin}
+use Rattle.tl_table.specs.Layouts.{OpenLayout, Fits, FitsBy, FitsCell, FitsRoom, FitsWithin, spacing_in}
 use Rattle.tl_table.specs.Least.{IsLeastHeight}
-use Rattle.tl_form.specs.Problems.{CellNeeds, IsCellBy, IsCount, IsCountAll, IsTrueProblem}
+use Rattle.tl_form.specs.Problems.{CellNeeds, IsCellBy, IsCount, IsCountAll, IsTrueProblem, inside_of}
 use Rattle.tl_table.specs.Sound.{IsSoundBy, IsSoundWithin, place_of}
 use Rattle.tl_table.proofs.Deeper.{FitsBy-weaker}
 use Rattle.tl_form.proofs.LeastExists.{Settles, settles}
@@ -68,17 +67,17 @@ module _ (style : Style) where
   -- ---- the cells of a layout that fits need heights at their rooms
 
   -- a width up to the page's at which the cell needs some height
-  pub record NeedsWithin (page : ℕ) (cell : OpenCell) : Type 0 where
+  pub record NeedsWithin (page inside : ℕ) (cell : OpenCell) : Type 0 where
     pub w : ℕ
     pub n : ℕ
     pub within : w ≤ page
-    pub need : CellNeeds Real cell w n
+    pub need : CellNeeds Real inside cell w n
 
-  cell-needs : (w h : ℕ) (cell : OpenCell) (inner : List Layout) → AllByRecursion (Settles style) (tables_in cell) →
+  cell-needs : (w h inside : ℕ) (cell : OpenCell) (inner : List Layout) → AllByRecursion (Settles style) (tables_in cell) →
       FitsRoom Any w h cell inner →
-      (n : ℕ) × CellNeeds Real cell w n
-  cell-needs w h cell inner settle held =
-      let low = cell-below Any Real w cell h inner
+      (n : ℕ) × CellNeeds Real inside cell w n
+  cell-needs w h inside cell inner settle held =
+      let low = cell-below Any Real w inside cell h inner
       (AllByRecursion-weaker (Settles style) (IsBelowAt Any Real w) (tables_in cell)
       (λ nested one k layout fits. elim (one w) [
         | inl least ↦ (least.0, least.1, least.1.least k layout fits)
@@ -90,14 +89,15 @@ module _ (style : Style) where
       total (gap_of style) (edges_of style) layout.widths ≤ page → (cells : List TableCell) (parts : List (List Layout)) →
       AllByRecursion (λ cell. AllByRecursion (Settles style) (tables_in (out-TableCell cell))) cells →
       AllByRecursion (λ cell. IsPlaced table.cols table.rows (place_of cell)) cells →
-      AllZip (λ cell inner. FitsCell Any style layout (out-TableCell cell) inner) cells parts →
-      AllByRecursion (λ cell. NeedsWithin page (out-TableCell cell)) cells
+      AllZip (λ cell inner. FitsCell Any style table layout (out-TableCell cell) inner) cells parts →
+      AllByRecursion (λ cell. NeedsWithin page (inside_of style table cell) (out-TableCell cell)) cells
   cells-need page table layout columns narrow [] parts settle placed held = tt
   cells-need page table layout columns narrow (cell ∷ cells) [] settle placed held = absurd held
   cells-need page table layout columns narrow (cell ∷ cells) (inner ∷ parts) settle placed held =
       let w = room (gap_of style) layout.widths (place_of cell).left (place_of cell).right in
-      let h = room (row_gap_of style) layout.heights (place_of cell).top (place_of cell).bottom in
-      let need = cell-needs w h (out-TableCell cell) inner settle.0 held.0 in (
+      let lines = inside_of style table cell in
+      let h = room (row_gap_of style) layout.heights (place_of cell).top (place_of cell).bottom + lines in
+      let need = cell-needs w h lines (out-TableCell cell) inner settle.0 held.0 in (
         record {
           w = w;
           n = need.0;
@@ -116,28 +116,30 @@ module _ (style : Style) where
   -- ---- the true problem
 
   module _ (page : ℕ) where
-    abbrev Made : TableCell → Cell → Type 0
-    Made cell made = IsCellBy Real Real page (out-TableCell cell) made
+    -- each cell, with so many lines inside, needs some height within the page
+    abbrev EachNeeds : (TableCell → ℕ) → List TableCell → Type 0
+    EachNeeds inside cells = AllByRecursion (λ cell. NeedsWithin page (inside cell) (out-TableCell cell)) cells
 
-    cell-starts : (cell : OpenCell) → AllByRecursion (Settles style) (tables_in cell) → NeedsWithin page cell →
+    cell-starts : (inside : ℕ) (cell : OpenCell) → AllByRecursion (Settles style) (tables_in cell) → NeedsWithin page inside cell →
         AllByRecursion (HasStart Real) (tables_in cell)
-    cell-starts cell settle some =
+    cell-starts inside cell settle some =
         AllByRecursion-weaker (λ nested. Settles style nested × ((m : ℕ) × Real nested some.w m)) (HasStart Real) (tables_in cell)
         (λ nested both. has-start nested both.0 some.w both.1.0 both.1.1)
         (both_each (Settles style) (λ nested. (m : ℕ) × Real nested some.w m) (tables_in cell) settle
-        (cell-inside Real some.w cell some.n some.need))
+        (cell-inside Real some.w inside cell some.n some.need))
 
-    true-cells : (cells : List TableCell) →
+    true-cells : (inside : TableCell → ℕ) (cells : List TableCell) →
         AllByRecursion (λ cell. AllByRecursion (Settles style) (tables_in (out-TableCell cell))) cells →
-        AllByRecursion (λ cell. NeedsWithin page (out-TableCell cell)) cells → (made : List Cell) × AllZip Made cells made
-    true-cells [] settle some = ([], tt)
-    true-cells (cell ∷ cells) settle some =
-        let have = cell-starts (out-TableCell cell) settle.0 some.0 in
-        let begins = cell-begins Real (out-TableCell cell) have in
-        let steps = cell-steps Real (out-TableCell cell) have page
+        EachNeeds inside cells →
+        (made : List Cell) × AllZip (λ cell made. IsCellBy Real Real page (inside cell) (out-TableCell cell) made) cells made
+    true-cells inside [] settle some = ([], tt)
+    true-cells inside (cell ∷ cells) settle some =
+        let have = cell-starts (inside cell) (out-TableCell cell) settle.0 some.0 in
+        let begins = cell-begins Real (inside cell) (out-TableCell cell) have in
+        let steps = cell-steps Real (inside cell) (out-TableCell cell) have page
         (omega (arith, begins.1.from some.0.w some.0.n some.0.need, some.0.within)) in
         let place = place_of cell in
-        let rest = true-cells cells settle.1 some.1 in (
+        let rest = true-cells inside cells settle.1 some.1 in (
           record {
             left = place.left;
             right = place.right;
@@ -151,19 +153,19 @@ module _ (style : Style) where
         )
 
     -- each table in the cells fits the page
-    inner-fit : (cells : List TableCell) → AllByRecursion (λ cell. NeedsWithin page (out-TableCell cell)) cells →
+    inner-fit : (inside : TableCell → ℕ) (cells : List TableCell) → EachNeeds inside cells →
         AllByRecursion (λ cell. AllByRecursion (λ nested. (h : ℕ) × (layout : Layout) × Fits nested style page h layout)
         (tables_in (out-TableCell cell))) cells
-    inner-fit [] some = tt
-    inner-fit (cell ∷ cells) some = (
+    inner-fit inside [] some = tt
+    inner-fit inside (cell ∷ cells) some = (
       AllByRecursion-weaker (λ nested. (m : ℕ) × Real nested some.0.w m)
           (λ nested. (h : ℕ) × (layout : Layout) × Fits nested style page h layout)
           (tables_in (out-TableCell cell))
           (λ nested least.
           let at = least.1.attained in
           (least.0, at.0, Fits-wider style nested some.0.w page least.0 at.0 some.0.within at.1))
-          (cell-inside Real some.0.w (out-TableCell cell) some.0.n some.0.need),
-      inner-fit cells some.1,
+          (cell-inside Real some.0.w (inside cell) (out-TableCell cell) some.0.n some.0.need),
+      inner-fit inside cells some.1,
     )
 
     -- ---- one table that fits
@@ -174,7 +176,7 @@ module _ (style : Style) where
       each : AllByRecursion (λ cell. AllByRecursion (Settles style) (tables_in (out-TableCell cell))) (out-Table table).cells
       each = each_joined (Settles style) (λ cell. tables_in (out-TableCell cell)) (out-Table table).cells settle
 
-      needs : AllByRecursion (λ cell. NeedsWithin page (out-TableCell cell)) (out-Table table).cells
+      needs : EachNeeds (inside_of style (out-Table table)) (out-Table table).cells
       needs =
           let fits = FitsBy-weaker (FitsWithin depth style) Any (λ nested w h one is. (depth, is)) style (out-Table table)
           page height
@@ -188,8 +190,8 @@ module _ (style : Style) where
 
       pub true-problem : (problem : ProblemModel) × IsTrueProblem table style page problem
       true-problem =
-          let made = true-cells (out-Table table).cells each needs in (
-            record { cols = (out-Table table).cols; rows = (out-Table table).rows; spacing = spacing_of style; width = page; cells = made.0 },
+          let made = true-cells (inside_of style (out-Table table)) (out-Table table).cells each needs in (
+            record { cols = (out-Table table).cols; rows = (out-Table table).rows; spacing = spacing_in style (out-Table table); width = page; cells = made.0 },
             record { columns = refl; lines = refl; spaced = refl; wide = refl; made = made.1 },
           )
 
@@ -198,7 +200,7 @@ module _ (style : Style) where
       inner-fits =
           joined-each (λ nested. (h : ℕ) × (one : Layout) × Fits nested style page h one)
           (λ cell. tables_in (out-TableCell cell)) (out-Table table).cells
-          (inner-fit (out-Table table).cells needs)
+          (inner-fit (inside_of style (out-Table table)) (out-Table table).cells needs)
 
     -- ---- the greatest count of some tables
 

@@ -18,7 +18,7 @@ use Rattle.tl_problem.specs.Spans.{has_span, all_spans, spans_of, greatest, cell
 use Rattle.tl_problem.specs.Spans.{classes_of, product, count_of}
 use Rattle.tl_table.specs.declared.cell.Table.{Table, out-Table}
 use Rattle.tl_table.specs.declared.cell.TableCell.{TableCell, out-TableCell}
-use Rattle.tl_form.specs.Problems.{AreStepsOf, CellNeeds, IsCellBy, IsProblemBy}
+use Rattle.tl_form.specs.Problems.{AreStepsOf, CellNeeds, IsCellBy, IsProblemBy, inside_of}
 use Rattle.tl_form.proofs.NeedSteps.{first-least, height-first, same-option, step-there}
 
 -- ---- the same steps, up to a lesser width
@@ -54,29 +54,29 @@ pub record Stays (short long : Cell) : Type 0 where
   pub first : first_width short.low ≡ first_width long.low
   pub steps : (step : Config) → Contains (short.low ++ short.high) step → Contains (long.low ++ long.high) step
 
-cells-stay : (lows highs : Table → ℕ → ℕ → Type 0) (narrow wide : ℕ) → narrow ≤ wide →
+cells-stay : (lows highs : Table → ℕ → ℕ → Type 0) (narrow wide : ℕ) → narrow ≤ wide → (inside : TableCell → ℕ)
     (cells : List TableCell) (short long : List Cell) →
-    AllZip (λ cell made. IsCellBy lows highs narrow (out-TableCell cell) made) cells short →
-    AllZip (λ cell made. IsCellBy lows highs wide (out-TableCell cell) made) cells long → AllZip Stays short long
-cells-stay lows highs narrow wide within [] [] [] first second = tt
-cells-stay lows highs narrow wide within [] [] (b ∷ long) first second = absurd second
-cells-stay lows highs narrow wide within [] (a ∷ short) long first second = absurd first
-cells-stay lows highs narrow wide within (cell ∷ cells) [] long first second = absurd first
-cells-stay lows highs narrow wide within (cell ∷ cells) (a ∷ short) [] first second = absurd second
-cells-stay lows highs narrow wide within (cell ∷ cells) (a ∷ short) (b ∷ long) first second = (
+    AllZip (λ cell made. IsCellBy lows highs narrow (inside cell) (out-TableCell cell) made) cells short →
+    AllZip (λ cell made. IsCellBy lows highs wide (inside cell) (out-TableCell cell) made) cells long → AllZip Stays short long
+cells-stay lows highs narrow wide within inside [] [] [] first second = tt
+cells-stay lows highs narrow wide within inside [] [] (b ∷ long) first second = absurd second
+cells-stay lows highs narrow wide within inside [] (a ∷ short) long first second = absurd first
+cells-stay lows highs narrow wide within inside (cell ∷ cells) [] long first second = absurd first
+cells-stay lows highs narrow wide within inside (cell ∷ cells) (a ∷ short) [] first second = absurd second
+cells-stay lows highs narrow wide within inside (cell ∷ cells) (a ∷ short) (b ∷ long) first second = (
   record {
     left = first.0.left ∙ sym second.0.left;
     right = first.0.right ∙ sym second.0.right;
-    first = first-stays (CellNeeds lows (out-TableCell cell)) narrow wide within a.low b.low first.0.low second.0.low;
+    first = first-stays (CellNeeds lows (inside cell) (out-TableCell cell)) narrow wide within a.low b.low first.0.low second.0.low;
     steps = λ step has. elim (Contains-append_cases a.low a.high step has) [
       | inl low ↦ Contains-append_left b.low b.high step
-          (step-stays (CellNeeds lows (out-TableCell cell)) narrow wide within a.low b.low first.0.low second.0.low step low)
+          (step-stays (CellNeeds lows (inside cell) (out-TableCell cell)) narrow wide within a.low b.low first.0.low second.0.low step low)
       | inr high ↦ Contains-append_right b.low b.high step
-          (step-stays (CellNeeds highs (out-TableCell cell))
+          (step-stays (CellNeeds highs (inside cell) (out-TableCell cell))
           narrow wide within a.high b.high first.0.high second.0.high step high)
     ];
   },
-  cells-stay lows highs narrow wide within cells short long first.1 second.1,
+  cells-stay lows highs narrow wide within inside cells short long first.1 second.1,
 )
 
 -- ---- lists that stand so to one another
@@ -219,4 +219,4 @@ pub counts-rise : (lows highs : Table → ℕ → ℕ → Type 0) (style : Style
 counts-rise lows highs style narrow wide table short long within first second =
     count-more short long (first.columns ∙ sym second.columns) (first.spaced ∙ sym second.spaced)
     (omega (arith, first.wide, second.wide, within))
-    (cells-stay lows highs narrow wide within (out-Table table).cells short.cells long.cells first.made second.made)
+    (cells-stay lows highs narrow wide within (inside_of style (out-Table table)) (out-Table table).cells short.cells long.cells first.made second.made)

@@ -75,7 +75,7 @@ nested_narrower style table nested least inner sound has outer own =
         let in_cell = flat_map-Contains (λ cell. tables_in (out-TableCell cell)) (out-Table table).cells nested has in
         let cell = in_cell.0 in
         let place = (out-TableCell cell).place in
-        let part = AllZip-Contains (λ one inner. FitsCell (FitsWithin depth style) style (out-Layout layout) (out-TableCell one)
+        let part = AllZip-Contains (λ one inner. FitsCell (FitsWithin depth style) style (out-Table table) (out-Layout layout) (out-TableCell one)
         inner)
         (out-Table table).cells held.parts cell held.cells in_cell.1 in
         let w = width_for style (out-Layout layout) place in
@@ -83,7 +83,7 @@ nested_narrower style table nested least inner sound has outer own =
         (tables_in (out-TableCell cell)) nested
         (All-from_recursion (λ one. (height : ℕ) × (layout : Layout) × FitsWithin depth style one w height layout)
         (tables_in (out-TableCell cell))
-        (tables_in-fit (FitsWithin depth style) w (height_for style (out-Layout layout) place) (out-TableCell cell)
+        (tables_in-fit (FitsWithin depth style) w (height_for style (out-Table table) (out-Layout layout) place) (out-TableCell cell)
         part.0 part.1)) in_cell.2 in
         let placed = cell_within table sound cell in_cell.1 in
         let narrow = room-total (gap_of style) (edges_of style) (out-Layout layout).widths place.left place.right placed.0

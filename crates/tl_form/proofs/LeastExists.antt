@@ -1,5 +1,5 @@
 -- A sound table that fits a page has a least height on it, and it can be found.
-use Rattle.std.proofs.Common.{◌≡◌, ℕ, zero, suc, ◌+◌, ◌<◌, ◌≤◌, ◌⊎◌, inl, inr, List, [], ◌∷◌, length, replicate, sum, refl, subst}
+use Rattle.std.proofs.Common.{◌≡◌, ℕ, zero, suc, ◌+◌, ◌-◌, ◌<◌, ◌≤◌, ◌⊎◌, inl, inr, List, [], ◌∷◌, length, replicate, sum, refl, subst}
 use Rattle.std.proofs.Common.{arith}
 use Rattle.std.specs.List.{AllZip, AllByRecursion, flat_map}
 use Rattle.std.proofs.lemmas.Bool.{cases_lt}
@@ -17,9 +17,9 @@ use Rattle.tl_table.specs.declared.cell.Table.{Table, out-Table}
 use Rattle.tl_table.specs.declared.cell.TableCell.{TableCell, out-TableCell}
 use Rattle.tl_table.specs.declared.layout.Layout.{Layout, out-Layout, roll-Layout}
 use Rattle.tl_table.specs.Tables.{OpenTable, OpenCell, OpenContent, inner_tables, tables_in, tables_of}
-use Rattle.tl_table.specs.Layouts.{OpenLayout, Share, Fits, FitsBy, FitsCell, FitsRoom, FitsShare, FitsWithin}
+use Rattle.tl_table.specs.Layouts.{OpenLayout, Share, Fits, FitsBy, FitsCell, FitsRoom, FitsShare, FitsWithin, lines_of}
 use Rattle.tl_table.specs.Least.{IsLeastHeight}
-use Rattle.tl_form.specs.Problems.{BlockNeeds, CellNeeds}
+use Rattle.tl_form.specs.Problems.{BlockNeeds, CellNeeds, inside_of}
 use Rattle.tl_table.specs.Sound.{IsSoundBy, IsSoundWithin, place_of}
 use Rattle.tl_text.proofs.Minimals.{AllFit-from_cutting}
 use Rattle.tl_form.proofs.CellNeedLemmas.{cell-functional}
@@ -84,32 +84,33 @@ module _ (style : Style) where
       none-later none [] held = absurd held
       none-later none (share ∷ shares) held = none shares held.1
 
-  cell-settles : (w : ℕ) (cell : OpenCell) → AllByRecursion Settles (tables_in cell) →
-      ((h : ℕ) × CellNeeds Real cell w h) ⊎ ((h : ℕ) (inner : List Layout) → FitsRoom Any w h cell inner → ⊥)
-  cell-settles w cell settle =
+  cell-settles : (w inside : ℕ) (cell : OpenCell) → AllByRecursion Settles (tables_in cell) →
+      ((h : ℕ) × CellNeeds Real inside cell w h) ⊎ ((h : ℕ) (inner : List Layout) → FitsRoom Any w h cell inner → ⊥)
+  cell-settles w inside cell settle =
       elim (cases_lt w cell.least) [
         | inl below ↦ inr (λ h inner held. omega (arith, held.floor, below))
         | inr floor ↦ elim (blocks-settle w cell.blocks (each_joined Settles (λ block. tables_of (out-Content block))
             cell.blocks settle)) [
               | inr none ↦ inr (λ h inner held. none held.shares held.blocks)
-              | inl all ↦ inl (sum all.0, record { floor = floor; heights = all.0; blocks = all.1; all = refl })
+              | inl all ↦ inl (sum all.0 - inside, record { floor = floor; heights = all.0; blocks = all.1; all = refl })
             ]
       ]
 
-  -- a cell that needs a height fits a room that is as high, and in no lower one
-  cell-fits : (w n h : ℕ) (cell : OpenCell) → CellNeeds Real cell w n → n ≤ h →
+  -- a cell that needs a height of its rows fits a room that is as high with the lines inside, and no lower one
+  cell-fits : (w n h inside : ℕ) (cell : OpenCell) → CellNeeds Real inside cell w n → n + inside ≤ h →
       (inner : List Layout) × FitsRoom Any w h cell inner
-  cell-fits w n h cell need enough =
-      cell-above Any Real w cell n h
+  cell-fits w n h inside cell need enough =
+      cell-above Any Real w inside cell n h
       (AllByRecursion-weaker (λ nested. (m : ℕ) × Real nested w m) (IsAboveAt Any Real w) (tables_in cell)
-      (λ nested some m least. (m, least.attained.0, least.attained.1, omega arith)) (cell-inside Real w cell n need)) need enough
+      (λ nested some m least. (m, least.attained.0, least.attained.1, omega arith)) (cell-inside Real w inside cell n need)) need enough
 
-  cell-lower : (w n h : ℕ) (cell : OpenCell) (inner : List Layout) → CellNeeds Real cell w n → FitsRoom Any w h cell inner → n ≤ h
-  cell-lower w n h cell inner need held =
-      let low = cell-below Any Real w cell h inner
+  cell-lower : (w n h inside : ℕ) (cell : OpenCell) (inner : List Layout) → CellNeeds Real inside cell w n →
+      FitsRoom Any w h cell inner → n ≤ h - inside
+  cell-lower w n h inside cell inner need held =
+      let low = cell-below Any Real w inside cell h inner
       (AllByRecursion-weaker (λ nested. (m : ℕ) × Real nested w m) (IsBelowAt Any Real w) (tables_in cell)
-      (λ nested some k layout fits. (some.0, some.1, some.1.least k layout fits)) (cell-inside Real w cell n need)) held in
-      omega (arith, cell-functional Real (least-functional style) cell w n low.0 need low.1, low.2)
+      (λ nested some k layout fits. (some.0, some.1, some.1.least k layout fits)) (cell-inside Real w inside cell n need)) held in
+      omega (arith, cell-functional Real (least-functional style) inside cell w n low.0 need low.1, low.2)
 
   -- ---- widths and heights of a table
 
@@ -122,13 +123,17 @@ module _ (style : Style) where
     abbrev lines_for : List ℕ → TableCell → ℕ
     lines_for heights cell = room (row_gap_of style) heights (place_of cell).top (place_of cell).bottom
 
+    -- what a cell needs of its rows
+    abbrev Needs : TableCell → ℕ → ℕ → Type 0
+    Needs cell = CellNeeds Real (inside_of style table cell) (out-TableCell cell)
+
     -- each cell needs some height at its room
     abbrev AllNeed : List ℕ → List TableCell → Type 0
-    AllNeed widths cells = AllByRecursion (λ cell. (n : ℕ) × CellNeeds Real (out-TableCell cell) (room_for widths cell) n) cells
+    AllNeed widths cells = AllByRecursion (λ cell. (n : ℕ) × Needs cell (room_for widths cell) n) cells
 
     -- each cell needs no more than its room has
     abbrev AllHeld : List ℕ → List ℕ → List TableCell → Type 0
-    AllHeld widths heights cells = AllByRecursion (λ cell. (n : ℕ) × CellNeeds Real (out-TableCell cell) (room_for widths cell) n
+    AllHeld widths heights cells = AllByRecursion (λ cell. (n : ℕ) × Needs cell (room_for widths cell) n
         × (n ≤ lines_for heights cell)) cells
 
     decide-need : (widths : List ℕ) (cells : List TableCell) →
@@ -136,10 +141,12 @@ module _ (style : Style) where
         Decides (AllNeed widths cells)
     decide-need widths [] each = inl tt
     decide-need widths (cell ∷ cells) each =
-        elim (cell-settles (room_for widths cell) (out-TableCell cell) each.0) [
+        elim (cell-settles (room_for widths cell) (inside_of style table cell) (out-TableCell cell) each.0) [
           | inr none ↦ inr (λ all.
-              let fits = cell-fits (room_for widths cell) all.0.0 all.0.0 (out-TableCell cell) all.0.1 (omega arith) in
-              none all.0.0 fits.0 fits.1)
+              let high = all.0.0 + inside_of style table cell in
+              let fits = cell-fits (room_for widths cell) all.0.0 high (inside_of style table cell) (out-TableCell cell) all.0.1
+              (omega arith) in
+              none high fits.0 fits.1)
           | inl need ↦ elim (decide-need widths cells each.1) [ inl rest ↦ inl (need, rest) | inr not ↦ inr (λ all. not all.1) ]
         ]
 
@@ -148,13 +155,15 @@ module _ (style : Style) where
         Decides (AllHeld widths heights cells)
     decide-held widths heights [] each = inl tt
     decide-held widths heights (cell ∷ cells) each =
-        elim (cell-settles (room_for widths cell) (out-TableCell cell) each.0) [
+        elim (cell-settles (room_for widths cell) (inside_of style table cell) (out-TableCell cell) each.0) [
           | inr none ↦ inr (λ all.
-              let fits = cell-fits (room_for widths cell) all.0.0 all.0.0 (out-TableCell cell) all.0.1 (omega arith) in
-              none all.0.0 fits.0 fits.1)
+              let high = all.0.0 + inside_of style table cell in
+              let fits = cell-fits (room_for widths cell) all.0.0 high (inside_of style table cell) (out-TableCell cell) all.0.1
+              (omega arith) in
+              none high fits.0 fits.1)
           | inl need ↦ elim (cases_lt (lines_for heights cell) need.0) [
             | inl high ↦ inr (λ all.
-                let same = cell-functional Real (least-functional style) (out-TableCell cell) (room_for widths cell)
+                let same = cell-functional Real (least-functional style) (inside_of style table cell) (out-TableCell cell) (room_for widths cell)
                 need.0 all.0.0 need.1 all.0.1 in
                 omega (arith, same, all.0.2, high))
             | inr low ↦ elim (decide-held widths heights cells each.1) [
@@ -173,17 +182,19 @@ module _ (style : Style) where
       pub held : AllHeld widths heights table.cells
 
     parts-of : (widths heights : List ℕ) (cells : List TableCell) → AllHeld widths heights cells →
-        (parts : List (List Layout)) × AllZip (λ cell inner. FitsRoom Any (room_for widths cell) (lines_for heights cell)
-        (out-TableCell cell) inner)
+        (parts : List (List Layout)) × AllZip (λ cell inner. FitsRoom Any (room_for widths cell)
+        (lines_for heights cell + inside_of style table cell) (out-TableCell cell) inner)
         cells parts
     parts-of widths heights [] held = ([], tt)
     parts-of widths heights (cell ∷ cells) held =
-        let first = cell-fits (room_for widths cell) held.0.0 (lines_for heights cell) (out-TableCell cell) held.0.1 held.0.2 in
+        let lines = inside_of style table cell in
+        let first = cell-fits (room_for widths cell) held.0.0 (lines_for heights cell + lines) lines (out-TableCell cell) held.0.1
+        (omega (arith, held.0.2)) in
         let rest = parts-of widths heights cells held.1 in
         (first.0 ∷ rest.0, (first.1, rest.1))
 
     good-fits : (page : ℕ) (widths heights : List ℕ) → IsGood page widths heights →
-        (layout : OpenLayout) × FitsBy Any style table page (total (row_gap_of style) (edges_of style) heights) layout
+        (layout : OpenLayout) × FitsBy Any style table page (total (row_gap_of style) (lines_of style table) heights) layout
     good-fits page widths heights good =
         let parts = parts-of widths heights table.cells good.held in (
           record { widths = widths; heights = heights; inner = flat_map (λ inner. inner) parts.0 },
@@ -200,19 +211,18 @@ module _ (style : Style) where
 
     held-by : (layout : OpenLayout) (cells : List TableCell) (parts : List (List Layout)) →
         AllByRecursion (λ cell. AllByRecursion Settles (tables_in (out-TableCell cell))) cells →
-        AllZip (λ cell inner. FitsCell Any style layout (out-TableCell cell) inner) cells parts →
+        AllZip (λ cell inner. FitsCell Any style table layout (out-TableCell cell) inner) cells parts →
         AllHeld layout.widths layout.heights cells
     held-by layout [] parts each fits = tt
     held-by layout (cell ∷ cells) [] each fits = absurd fits
     held-by layout (cell ∷ cells) (inner ∷ parts) each fits = (
-      elim (cell-settles (room_for layout.widths cell) (out-TableCell cell) each.0) [
-        | inr none ↦ absurd (none (lines_for layout.heights cell) inner fits.0)
-        | inl need ↦ (
-          need.0,
-          need.1,
-          cell-lower (room_for layout.widths cell) need.0 (lines_for layout.heights cell) (out-TableCell cell)
-              inner need.1 fits.0,
-        )
+      elim (cell-settles (room_for layout.widths cell) (inside_of style table cell) (out-TableCell cell) each.0) [
+        | inr none ↦ absurd (none (lines_for layout.heights cell + inside_of style table cell) inner fits.0)
+        | inl need ↦
+            let lines = inside_of style table cell in
+            let low = cell-lower (room_for layout.widths cell) need.0 (lines_for layout.heights cell + lines) lines
+            (out-TableCell cell) inner need.1 fits.0 in
+            (need.0, need.1, omega (arith, low))
       ],
       held-by layout cells parts each.1 fits.1,
     )
@@ -229,7 +239,7 @@ module _ (style : Style) where
     -- ---- the least of them
 
     abbrev total_of : List ℕ → ℕ
-    total_of heights = total (row_gap_of style) (edges_of style) heights
+    total_of heights = total (row_gap_of style) (lines_of style table) heights
 
     -- good sizes that are lower
     abbrev IsLower : ℕ → ℕ → List ℕ → List ℕ → Type 0
@@ -275,7 +285,7 @@ module _ (style : Style) where
         decide-some table.cols page (λ widths. Found table.rows (λ heights. IsLower page height widths heights))
         (λ widths. decide-some table.rows height (λ heights. IsLower page height widths heights)
         (λ heights. decide-lower page height widths heights)
-        (λ heights is. total-within (row_gap_of style) (edges_of style) height heights (omega (arith, is.1))))
+        (λ heights is. total-within (row_gap_of style) (lines_of style table) height heights (omega (arith, is.1))))
         (λ widths found. total-within (gap_of style) (edges_of style) page widths found.2.0.narrow)
 
     -- the least total height of good sizes
@@ -380,11 +390,11 @@ module _ (style : Style) where
         | inl least ↦
             let fits = good-fits (out-Table table) each placed page least.widths least.heights least.good in
             inl (
-              total (row_gap_of style) (edges_of style) least.heights,
+              total (row_gap_of style) (lines_of style (out-Table table)) least.heights,
               record {
                 attained = (
                   roll-Layout fits.0,
-                  fits-rolled style table page (total (row_gap_of style) (edges_of style) least.heights) fits.0 fits.1,
+                  fits-rolled style table page (total (row_gap_of style) (lines_of style (out-Table table)) least.heights) fits.0 fits.1,
                 );
                 least = least-of least;
               },
@@ -405,7 +415,7 @@ module _ (style : Style) where
 
       least-of : (least : IsLeastGood (out-Table table) each placed page) → (other : ℕ) (layout : Layout) →
           Fits table style page other layout →
-          total (row_gap_of style) (edges_of style) least.heights ≤ other
+          total (row_gap_of style) (lines_of style (out-Table table)) least.heights ≤ other
       least-of least other layout (zero, held) = absurd held
       least-of least other layout (suc depth, held) =
           let good = fits-good (out-Table table) each placed page other (out-Layout layout)

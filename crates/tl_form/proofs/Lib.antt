@@ -1,4 +1,6 @@
 pub mod NeedSteps
+pub mod LoweredSteps
+pub mod TallStacks
 pub mod ParagraphSteps
 pub mod CellNeedLemmas
 pub mod ProblemLayouts
@@ -17,6 +19,7 @@ pub mod Searches
 pub mod LeastExists
 pub mod CountsExist
 mod ProblemExamples
+mod LoweredExamples
 pub mod BetweenSteps
 pub mod DueLaws
 pub mod Truth

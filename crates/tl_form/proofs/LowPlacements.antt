@@ -2,19 +2,22 @@
 -- them, one under the other, are enough.
 use Rattle.tl_base.specs.declared.spacing.Spacing.{Spacing}
 use Rattle.std.proofs.Common.{◌≡◌, ℕ, zero, suc, ◌+◌, ◌-◌, ◌*◌, ◌<◌, ◌≤◌, ◌==◌, cond, inl, inr, List, [], ◌∷◌, length}
-use Rattle.std.proofs.Common.{get_or, map, sum_by, refl, ap, ◌∙◌, arith}
+use Rattle.std.proofs.Common.{get_or, is_some, map, max, nat_lt, sum_by, refl, ap, ◌∙◌, arith}
 use Rattle.std.specs.List.{AllByRecursion, range_with_len}
-use Rattle.std.proofs.lemmas.Bool.{eq-eqb, ne_eqb, cases_eq}
+use Rattle.std.proofs.lemmas.Bool.{eq-eqb, ne_eqb, cases_eq, cond_both}
 use Rattle.std.proofs.lemmas.List.{length-map}
 use Rattle.std.proofs.lemmas.List.FromFn.{length-range_with_len, get_or-map-range_with_len}
 use Rattle.std.proofs.lemmas.List.Sums.{sum_by-cons}
 use Rattle.tl_base.specs.declared.style.Style.{Style}
-use Rattle.tl_base.specs.declared.style.Style.TheVariants.{Plain, Compact, Frame, Grid, Box}
-use Rattle.tl_base.specs.Style.{spacing_of}
+use Rattle.tl_base.specs.declared.style.Style.TheVariants.{Plain, Compact, Frame, Grid, Box, Rule, Apart}
 use Rattle.tl_base.specs.Steps.{first_height}
 use Rattle.tl_problem.specs.declared.cell.Cell.{Cell}
 use Rattle.tl_base.specs.Sizes.{room, total}
 use Rattle.tl_base.proofs.SizeLaws.{position-mono, room-position, position-next}
+use Rattle.tl_grid.specs.declared.shape.Place.{Place}
+use Rattle.tl_table.specs.Heads.{end_of_head, head_row}
+use Rattle.tl_table.specs.Layouts.{lines_inside, lines_of, spacing_in}
+use Rattle.tl_table.specs.Tables.{OpenTable}
 use Rattle.tl_table.proofs.Rooms.{total-ahead}
 
 -- ---- how much the cells that begin in a row are
@@ -145,22 +148,54 @@ rows-enough gap made n k d inside ahead within =
       weight-le made k d inside,
     )
 
--- the gaps between rows and the lines beside them are no more than the rows and one line
-abbrev pub IsLight : Spacing → Type 0
-IsLight spacing = (n : ℕ) → 0 < n → spacing.row_gap * (n - 1) + spacing.lines ≤ n + 1
+-- the gaps between so many rows and the lines beside them are no more than the rows and one line
+abbrev pub IsLight : Spacing → ℕ → Type 0
+IsLight spacing rows = 0 < rows → spacing.row_gap * (rows - 1) + spacing.lines ≤ rows + 1
 
-pub style-light : (style : Style) → IsLight (spacing_of style)
-style-light Plain n some = omega arith
-style-light Compact n some = omega arith
-style-light Frame n some = omega (arith, some)
-style-light Grid n some = omega (arith, some)
-style-light Box n some = omega (arith, some)
+pub style-light : (style : Style) (table : OpenTable) → IsLight (spacing_in style table) table.rows
+style-light Plain table some = omega arith
+style-light Compact table some = omega arith
+style-light Frame table some = omega (arith, some)
+style-light Grid table some = omega (arith, some)
+style-light Box table some = omega (arith, some)
+style-light Rule table some =
+    cond_both (is_some (head_row table)) 1 0 (λ n. 0 * (table.rows - 1) + n ≤ table.rows + 1) (λ yes. omega arith)
+    (λ no. omega arith)
+style-light Apart table some =
+    cond_both (is_some (head_row table)) 1 0
+    (λ n. 0 * (table.rows - 1) + (n + (table.rows - end_of_head table - 1)) ≤ table.rows + 1) (λ yes. omega (arith, some))
+    (λ no. omega (arith, some))
 
-pub rows-total : (spacing : Spacing) → IsLight spacing → (made : List Cell) (n : ℕ) →
+-- no more lines stand beside the rows than there are rows, or two
+pub lines-least : (style : Style) (table : OpenTable) → lines_of style table ≤ max 2 table.rows
+lines-least Plain table = omega arith
+lines-least Compact table = omega arith
+lines-least Frame table = omega arith
+lines-least Grid table = omega arith
+lines-least Box table = omega arith
+lines-least Rule table =
+    cond_both (is_some (head_row table)) 1 0 (λ n. n ≤ max 2 table.rows) (λ yes. omega arith) (λ no. omega arith)
+lines-least Apart table =
+    cond_both (is_some (head_row table)) 1 0 (λ n. n + (table.rows - end_of_head table - 1) ≤ max 2 table.rows) (λ yes. omega arith)
+    (λ no. omega arith)
+
+-- the lines inside a place are fewer than its rows, so no more than where it ends
+pub inside-few : (style : Style) (table : OpenTable) (place : Place) → lines_inside style table place ≤ place.bottom
+inside-few Plain table place = omega arith
+inside-few Compact table place = omega arith
+inside-few Frame table place = omega arith
+inside-few Grid table place = omega arith
+inside-few Box table place = omega arith
+inside-few Rule table place = omega arith
+inside-few Apart table place =
+    cond_both (nat_lt place.top (end_of_head table)) 0 (place.bottom - place.top - 1) (λ n. n ≤ place.bottom) (λ yes. omega arith)
+    (λ no. omega arith)
+
+pub rows-total : (spacing : Spacing) (made : List Cell) (n : ℕ) → IsLight spacing n →
     AllByRecursion (λ row. 1 ≤ row_weight made row) (range_with_len 0 n) →
     total spacing.row_gap spacing.lines (row_heights made n) ≤ sum_by (λ one. first_height one.high + 1) made + 1
-rows-total spacing light made zero some = omega arith
-rows-total spacing light made (suc n) some =
+rows-total spacing made zero light some = omega arith
+rows-total spacing made (suc n) light some =
     let long = length-rows made (suc n) in
     let whole = total-ahead spacing.row_gap spacing.lines (row_heights made (suc n)) (omega (arith, long)) in
     let count = ap (λ k. spacing.row_gap * (k - 1)) long in
@@ -168,7 +203,7 @@ rows-total spacing light made (suc n) some =
       arith,
       whole,
       count,
-      light (suc n) (omega arith),
+      light (omega arith),
       heights-sum made (range_with_len 0 (suc n)) some,
       length-range_with_len 0 (suc n),
       rows-weight made (suc n),

@@ -1,7 +1,7 @@
 -- The layout that a certificate names fits: each table of it stands by the placement of its section, in which the layouts
 -- of the tables nested in it have room.
 use Rattle.tl_base.specs.declared.spacing.Spacing.{Spacing}
-use Rattle.std.proofs.Common.{◌≡◌, ◌∙◌, ℕ, zero, suc, ◌-◌, ◌<◌, ◌≤◌, List, [], ◌∷◌, ◌++◌, ◌⊎◌, inl, inr, length, get_or, take}
+use Rattle.std.proofs.Common.{◌≡◌, ◌∙◌, ℕ, zero, suc, ◌+◌, ◌-◌, ◌<◌, ◌≤◌, List, [], ◌∷◌, ◌++◌, ◌⊎◌, inl, inr, length, get_or, take}
 use Rattle.std.proofs.Common.{sum, sum_by}
 use Rattle.std.proofs.Common.{Option, Some, None, refl, sym, ap, subst, arith}
 use Rattle.std.specs.List.{All, AllZip, AllByRecursion, Contains, flat_map}
@@ -33,11 +33,11 @@ use Rattle.tl_table.specs.declared.cell.TableCell.{TableCell, out-TableCell}
 use Rattle.tl_form.specs.declared.heights.InnerSteps.{InnerSteps}
 use Rattle.tl_table.specs.declared.layout.Layout.{Layout, out-Layout}
 use Rattle.tl_form.specs.Expected.{Document, IsDocumentOf, IsTableOf, own_number, placed_width}
-use Rattle.tl_table.specs.Layouts.{Share, Fits, FitsRoom, FitsShare, width_for}
+use Rattle.tl_table.specs.Layouts.{Share, Fits, FitsRoom, FitsShare, lines_of, width_for}
 use Rattle.tl_form.specs.Named.{IsChosen, AreLaidIn, IsLaidWithin, IsNamedBy}
 use Rattle.tl_form.specs.Nested.{IsPlacedWithin, IsLeastFound, AreInnerSteps}
 use Rattle.tl_form.specs.ProblemLaws.{LayoutsAreByLow, LayoutsByHighFit}
-use Rattle.tl_form.specs.Problems.{BlockNeeds, CellNeeds, InnerNeeds, IsCellBy, IsProblemOf}
+use Rattle.tl_form.specs.Problems.{BlockNeeds, CellNeeds, InnerNeeds, IsCellBy, IsProblemOf, inside_of}
 use Rattle.tl_table.specs.Tables.{IsAmong, OpenCell, OpenContent, tables_of, tables_in, inner_tables}
 use Rattle.tl_table.specs.Sound.{IsSound}
 use Rattle.tl_form.specs.Valid.{AreGoodBelow, AreWhole, EndsWith, HasNumbers, IsShown}
@@ -108,10 +108,10 @@ module _ (style : Style) (needs : Table → ℕ → ℕ → Type 0) (w : ℕ) wh
             ∙ ap (λ (inner : List Layout). split.0 ++ inner) rest.3 ∙ sym split.2,
       )
 
-  pub cell_given : (cell : OpenCell) (n h : ℕ) (part : List Layout) → AllZip IsEnoughFor (tables_in cell) part →
-      CellNeeds needs cell w n → n ≤ h →
+  pub cell_given : (inside : ℕ) (cell : OpenCell) (n h : ℕ) (part : List Layout) → AllZip IsEnoughFor (tables_in cell) part →
+      CellNeeds needs inside cell w n → n + inside ≤ h →
       FitsRoom FitsAny w h cell part
-  cell_given cell n h part given need enough =
+  cell_given inside cell n h part given need enough =
       let all = blocks_given cell.blocks need.heights part given need.blocks in
       record {
         floor = need.floor;
@@ -128,7 +128,7 @@ low_height : (o : Option ℕ) (h : ℕ) → IsSomeAnd o (λ height. height ≤ h
 low_height None h low = absurd low
 low_height (Some n) h low = (n, refl, low)
 
-module _ (style : Style) (lows highs : Table → ℕ → ℕ → Type 0) (page : ℕ) (widths heights : List ℕ)
+module _ (style : Style) (lows highs : Table → ℕ → ℕ → Type 0) (page : ℕ) (lines : TableCell → ℕ) (widths heights : List ℕ)
     (narrow : total (gap_of style) (edges_of style) widths ≤ page) where
   -- the cell lies in the columns, and its `high` is within its room
   pub record IsFine (made : Cell) : Type 0 where
@@ -146,9 +146,10 @@ module _ (style : Style) (lows highs : Table → ℕ → ℕ → Type 0) (page :
   abbrev FitsIn : TableCell → List Layout → Type 0
   FitsIn cell part = FitsRoom (λ nested v h layout. Fits nested style v h layout)
       (room (gap_of style) widths (out-TableCell cell).place.left (out-TableCell cell).place.right)
-      (room (row_gap_of style) heights (out-TableCell cell).place.top (out-TableCell cell).place.bottom) (out-TableCell cell) part
+      (room (row_gap_of style) heights (out-TableCell cell).place.top (out-TableCell cell).place.bottom + lines cell)
+      (out-TableCell cell) part
 
-  one_given : (cell : TableCell) (made : Cell) (part : List Layout) → IsCellBy lows highs page (out-TableCell cell) made →
+  one_given : (cell : TableCell) (made : Cell) (part : List Layout) → IsCellBy lows highs page (lines cell) (out-TableCell cell) made →
       IsFine made →
       IsGiven cell part → FitsIn cell part
   one_given cell made part is fine given =
@@ -165,11 +166,11 @@ module _ (style : Style) (lows highs : Table → ℕ → ℕ → Type 0) (page :
       let need = (is.high.each (room (gap_of style) widths place.left place.right) low.0
       (omega (arith, across, within, narrow))).0
       (ap (height_at made.high) (sym across) ∙ low.1) in
-      cell_given style highs (room (gap_of style) widths place.left place.right) (out-TableCell cell) low.0
-      (room (row_gap_of style) heights place.top place.bottom) part given need (omega (arith, low.2, down))
+      cell_given style highs (room (gap_of style) widths place.left place.right) (lines cell) (out-TableCell cell) low.0
+      (room (row_gap_of style) heights place.top place.bottom + lines cell) part given need (omega (arith, low.2, down))
 
   pub all_given : (cells : List TableCell) (made : List Cell) (parts : List (List Layout)) →
-      AllZip (λ cell one. IsCellBy lows highs page (out-TableCell cell) one) cells made → AllByRecursion IsFine made →
+      AllZip (λ cell one. IsCellBy lows highs page (lines cell) (out-TableCell cell) one) cells made → AllByRecursion IsFine made →
       AllZip IsGiven cells parts →
       AllZip FitsIn cells parts
   all_given [] [] [] are fine given = tt
@@ -197,10 +198,14 @@ module _ (table : Table) (style : Style) (page : ℕ) (inner : List InnerSteps) 
   low_enough = subst (λ (s : Spacing). All (λ one. IsLowAt one.high (room s.row_gap placed.heights one.top one.bottom)
       (room s.gap placed.widths one.left one.right)) problem.cells) of.spaced placement.rows.kind.cells
 
-  all_fine : AllByRecursion (IsFine style (InnerNeeds (λ one. one.low) inner) highs page placed.widths placed.heights fits_page)
+  -- the lines inside each cell
+  abbrev lines : TableCell → ℕ
+  lines = inside_of style (out-Table table)
+
+  all_fine : AllByRecursion (IsFine style (InnerNeeds (λ one. one.low) inner) highs page lines placed.widths placed.heights fits_page)
       problem.cells
   all_fine = recursion_from_All (IsFine style (InnerNeeds (λ one. one.low) inner)
-      highs page placed.widths placed.heights fits_page) problem.cells
+      highs page lines placed.widths placed.heights fits_page) problem.cells
       (λ k d within. record {
         some = (sound.cells k d within).columns.0;
         within = omega (arith, (sound.cells k d within).columns.1, placement.page.columns);
@@ -213,8 +218,9 @@ module _ (table : Table) (style : Style) (page : ℕ) (inner : List InnerSteps) 
   cell_within cell has = from (out-Table table).cells problem.cells cell of.made all_fine has
     where
       from : (cells : List TableCell) (made : List Cell) (cell : TableCell) →
-          AllZip (λ each one. IsCellBy (InnerNeeds (λ one. one.low) inner) highs page (out-TableCell each) one) cells made →
-          AllByRecursion (IsFine style (InnerNeeds (λ one. one.low) inner) highs page placed.widths placed.heights fits_page)
+          AllZip (λ each one. IsCellBy (InnerNeeds (λ one. one.low) inner) highs page (lines each) (out-TableCell each) one) cells
+          made →
+          AllByRecursion (IsFine style (InnerNeeds (λ one. one.low) inner) highs page lines placed.widths placed.heights fits_page)
           made →
           Contains cells cell → room (gap_of style) placed.widths (out-TableCell cell).place.left
           (out-TableCell cell).place.right ≤ page
@@ -254,26 +260,26 @@ module _ (table : Table) (style : Style) (page : ℕ) (inner : List InnerSteps) 
       (out-TableCell cell).place.right)) (tables_in (out-TableCell cell)) part) (out-Table table).cells parts →
       flat_map (λ part. part) parts ≡ (out-Layout layout).inner →
       Fits table style (total (gap_of style) (edges_of style) placed.widths)
-      (total (row_gap_of style) (edges_of style) placed.heights) layout
+      (total (row_gap_of style) (lines_of style (out-Table table)) placed.heights) layout
   given_fits layout parts wide high given joined =
       let any = fits-from_any style (out-Table table) (total (gap_of style) (edges_of style) placed.widths)
-      (total (row_gap_of style) (edges_of style) placed.heights) (out-Layout layout) (record {
+      (total (row_gap_of style) (lines_of style (out-Table table)) placed.heights) (out-Layout layout) (record {
         columns = ap length wide ∙ placement.page.columns ∙ of.columns;
         rows = ap length high ∙ placement.rows.kind.rows ∙ of.lines;
         within = omega (arith, ap (total (gap_of style) (edges_of style)) wide);
-        high = ap (total (row_gap_of style) (edges_of style)) high;
+        high = ap (total (row_gap_of style) (lines_of style (out-Table table))) high;
         parts = parts;
         cells = subst (λ widths. AllZip (λ cell part. FitsRoom (λ nested v h one. Fits nested style v h one)
             (room (gap_of style) widths (out-TableCell cell).place.left (out-TableCell cell).place.right)
             (room (row_gap_of style) (out-Layout layout).heights (out-TableCell cell).place.top
-            (out-TableCell cell).place.bottom) (out-TableCell cell) part)
+            (out-TableCell cell).place.bottom + lines cell) (out-TableCell cell) part)
             (out-Table table).cells parts) (sym wide)
             (subst (λ heights. AllZip (λ cell part. FitsRoom (λ nested v h one. Fits nested style v h one)
             (room (gap_of style) placed.widths (out-TableCell cell).place.left (out-TableCell cell).place.right)
-            (room (row_gap_of style) heights (out-TableCell cell).place.top (out-TableCell cell).place.bottom)
+            (room (row_gap_of style) heights (out-TableCell cell).place.top (out-TableCell cell).place.bottom + lines cell)
             (out-TableCell cell) part)
             (out-Table table).cells parts) (sym high)
-            (all_given style (InnerNeeds (λ one. one.low) inner) highs page placed.widths placed.heights fits_page
+            (all_given style (InnerNeeds (λ one. one.low) inner) highs page lines placed.widths placed.heights fits_page
             (out-Table table).cells problem.cells
             parts of.made all_fine given));
         given = joined;
@@ -393,10 +399,10 @@ module _ (document : Document) (sound : IsSound document.table) (budget : ℕ) (
       laid.given in
       let wide : total (gap_of document.style) (edges_of document.style) placed.widths ≡ placed_width document.style (at i) =
       ap (total (gap_of document.style) (edges_of document.style)) by.2.wide in
-      let high : total (row_gap_of document.style) (edges_of document.style) placed.heights ≡ (at i).height =
-      ap (λ (s : Spacing). total s.row_gap s.lines placed.heights) (sym own.made.spaced) ∙ sym placement.height ∙ by.2.high in
+      let high : total (row_gap_of document.style) (lines_of document.style (out-Table one)) placed.heights ≡ (at i).height =
+      ap (λ (s : Spacing). total s.row_gap s.lines placed.heights) (sym made.spaced) ∙ sym placement.height ∙ by.2.high in
       subst (λ h. Fits one document.style (placed_width document.style (at i)) h layout) high
-      (subst (λ w. Fits one document.style w (total (row_gap_of document.style) (edges_of document.style) placed.heights) layout)
+      (subst (λ w. Fits one document.style w (total (row_gap_of document.style) (lines_of document.style (out-Table one)) placed.heights) layout)
       wide fits)
 
 -- ---- for a certificate

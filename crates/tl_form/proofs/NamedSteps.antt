@@ -42,7 +42,7 @@ use Rattle.tl_table.specs.Least.{IsLeastWidth}
 use Rattle.tl_form.specs.Named.{IsNamed, IsChosen, IsLaidWithin, IsLastPlacement, IsNamedLayoutBy, IsPlacementOf}
 use Rattle.tl_form.specs.Nested.{IsPlacedWithin, IsProblemFor}
 use Rattle.tl_form.specs.ProblemLaws.{LayoutsAreByLow, LayoutsByHighFit}
-use Rattle.tl_form.specs.Problems.{InnerNeeds, IsCellBy}
+use Rattle.tl_form.specs.Problems.{InnerNeeds, IsCellBy, inside_of}
 use Rattle.tl_table.specs.Sound.{IsSound, IsSoundWithin}
 use Rattle.tl_table.specs.Tables.{OpenContent, inner_tables, tables_in, tables_of}
 use Rattle.tl_form.specs.Valid.{AreWhole, HasPlacement, IsGood, IsProblemAt, IsShown, IsValid}
@@ -166,7 +166,7 @@ module _ (document : Document) (budget : ℕ) (style : Style) (sections : List S
 
     cell_room : (cell : TableCell) → Contains (out-Table table).cells cell → (made : Cell) →
         IsCellBy (InnerNeeds (λ one. one.low) of.inner) (InnerNeeds (λ one. one.high) of.inner) section.width
-        (out-TableCell cell) made →
+        (inside_of style (out-Table table) cell) (out-TableCell cell) made →
         IsSoundCell problem made → first_width made.low ≤ cell_width problem widths made →
         HasLayoutRoom style sections widths cell
     cell_room cell has made is_made sound_made wide = record {
@@ -211,13 +211,13 @@ module _ (document : Document) (budget : ℕ) (style : Style) (sections : List S
 
       inside_all : AllByRecursion (λ one. (m : ℕ) × InnerNeeds (λ each. each.high) of.inner one w m)
           (tables_in (out-TableCell cell))
-      inside_all = cell-inside (InnerNeeds (λ each. each.high) of.inner) w (out-TableCell cell) height.0
+      inside_all = cell-inside (InnerNeeds (λ each. each.high) of.inner) w (inside_of style (out-Table table) cell) (out-TableCell cell) height.0
           ((is_made.high.each w height.0 upto).0 height.1)
 
     cells_rooms : (cells : List TableCell) (made : List Cell) →
         ((cell : TableCell) → Contains cells cell → Contains (out-Table table).cells cell) →
         AllZip (λ cell one. IsCellBy (InnerNeeds (λ each. each.low) of.inner) (InnerNeeds (λ each. each.high) of.inner)
-        section.width (out-TableCell cell) one)
+        section.width (inside_of style (out-Table table) cell) (out-TableCell cell) one)
         cells made → AllByRecursion (λ one. IsSoundCell problem one × (first_width one.low ≤ cell_width problem widths one))
         made →
         AllByRecursion (HasLayoutRoom style sections widths) cells

@@ -245,7 +245,7 @@ AreStepsOf-falls needs page steps of = record {
 
 -- ---- two things one above the other
 
-both-some : (o p : Option ℕ) (h : ℕ) → both_heights o p ≡ Some h → (m n : ℕ) × (o ≡ Some m) × (p ≡ Some n) × (m + n ≡ h)
+pub both-some : (o p : Option ℕ) (h : ℕ) → both_heights o p ≡ Some h → (m n : ℕ) × (o ≡ Some m) × (p ≡ Some n) × (m + n ≡ h)
 both-some None p h is = absurd cc
 both-some (Some m) None h is = absurd cc
 both-some (Some m) (Some n) h is = (m, n, refl, refl, cc)

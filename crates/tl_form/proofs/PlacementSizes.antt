@@ -6,7 +6,6 @@ use Rattle.std.proofs.lemmas.List.Elements.{recursion_from_All, All-from_recursi
 use Rattle.std.proofs.lemmas.List.FromFn.{get_or-range_with_len, length-range_with_len}
 use Rattle.std.proofs.lemmas.List.Sums.{sum_by-cons}
 use Rattle.tl_base.specs.declared.style.Style.{Style}
-use Rattle.tl_base.specs.Style.{row_gap_of, edges_of}
 use Rattle.tl_base.specs.Steps.{AreSteps, first_height, first_width}
 use Rattle.tl_base.proofs.Zips.{AllZip-length}
 use Rattle.tl_grid.specs.declared.shape.Place.{Place}
@@ -22,7 +21,7 @@ use Rattle.tl_table.specs.declared.cell.Content.{out-Content}
 use Rattle.tl_table.specs.declared.cell.Table.{Table, out-Table}
 use Rattle.tl_table.specs.declared.cell.TableCell.{TableCell, out-TableCell}
 use Rattle.tl_form.specs.declared.heights.InnerSteps.{InnerSteps}
-use Rattle.tl_form.specs.Problems.{InnerNeeds, IsCellBy, IsProblemOf}
+use Rattle.tl_form.specs.Problems.{InnerNeeds, IsCellBy, IsProblemOf, inside_of}
 use Rattle.tl_table.specs.Sound.{IsSoundBy, IsSoundWithin, IsSpeltBlock, place_of, table_size}
 use Rattle.tl_form.specs.SoundProblems.{AreSoundPremises}
 use Rattle.tl_form.proofs.LowPlacements.{IsLight, style-light, length-rows, row_heights, row_weight, rows-enough, rows-total, weight-le}
@@ -34,15 +33,15 @@ use Rattle.tl_table.proofs.SizesOpen.{table_size-out}
 abbrev IsInRows : ℕ → Cell → Type 0
 IsInRows n one = AreSteps one.high × (one.top < one.bottom) × (one.bottom ≤ n)
 
-in-rows : (lows highs : Table → ℕ → ℕ → Type 0) (page cols n : ℕ) (cells : List TableCell) (made : List Cell) →
-    AllZip (λ cell one. IsCellBy lows highs page (out-TableCell cell) one) cells made →
+in-rows : (lows highs : Table → ℕ → ℕ → Type 0) (page cols n : ℕ) (lines : TableCell → ℕ) (cells : List TableCell)
+    (made : List Cell) → AllZip (λ cell one. IsCellBy lows highs page (lines cell) (out-TableCell cell) one) cells made →
     AllByRecursion (λ cell. IsPlaced cols n (place_of cell)) cells → AllByRecursion (IsInRows n) made
-in-rows lows highs page cols n [] [] of placed = tt
-in-rows lows highs page cols n [] (one ∷ made) of placed = absurd of
-in-rows lows highs page cols n (cell ∷ cells) [] of placed = absurd of
-in-rows lows highs page cols n (cell ∷ cells) (one ∷ made) of placed = (
+in-rows lows highs page cols n lines [] [] of placed = tt
+in-rows lows highs page cols n lines [] (one ∷ made) of placed = absurd of
+in-rows lows highs page cols n lines (cell ∷ cells) [] of placed = absurd of
+in-rows lows highs page cols n lines (cell ∷ cells) (one ∷ made) of placed = (
   (of.0.high.decreasing, omega (arith, of.0.top, of.0.bottom, placed.0.2), omega (arith, of.0.bottom, placed.0.3)),
-  in-rows lows highs page cols n cells made of.1 placed.1,
+  in-rows lows highs page cols n lines cells made of.1 placed.1,
 )
 
 sum-heights : (made : List Cell) → sum_by (λ one. first_height one.high + 1) made ≡ sum_by (λ one. first_height one.high)
@@ -87,7 +86,7 @@ module _ (problem : ProblemModel) (placed : Placed) (placement : IsPlacement pro
       (long ∙ sym (length-rows problem.cells problem.rows))
       (placement.rows.earliest (row_heights problem.cells problem.rows) give (length placed.heights) (omega arith))
 
-  pub height-low : IsLight problem.spacing → AllByRecursion (λ row. 1 ≤ row_weight problem.cells row) (range_with_len 0 problem.rows) →
+  pub height-low : IsLight problem.spacing problem.rows → AllByRecursion (λ row. 1 ≤ row_weight problem.cells row) (range_with_len 0 problem.rows) →
       (some : ℕ) → sum_by (λ one. first_height one.high) problem.cells + 2 * length problem.cells ≤ some → placed.height ≤ some
   height-low light rows some small =
       by-rows problem.rows refl problem.cells refl
@@ -107,7 +106,7 @@ module _ (problem : ProblemModel) (placed : Placed) (placement : IsPlacement pro
           absurd (omega (arith, first.0, no-weight 0))
       by-rows (suc n) more (one ∷ made) is =
           let count = ap length is in
-          omega (arith, whole, rows-total problem.spacing light problem.cells problem.rows rows, sum-heights problem.cells, small, count)
+          omega (arith, whole, rows-total problem.spacing problem.cells problem.rows light rows, sum-heights problem.cells, small, count)
 
 module _ (table : Table) (style : Style) (page : ℕ) (inner : List InnerSteps) (problem : ProblemModel) (placed : Placed)
     (given : AreSoundPremises table style page inner) (of : IsProblemOf table style page inner problem)
@@ -118,9 +117,9 @@ module _ (table : Table) (style : Style) (page : ℕ) (inner : List InnerSteps) 
       (All-from_recursion (IsInRows problem.rows) problem.cells
       (subst (λ n. AllByRecursion (IsInRows n) problem.cells) (sym of.lines)
       (in-rows (InnerNeeds (λ one. one.low) inner) (InnerNeeds (λ one. one.high) inner) page (out-Table table).cols
-      (out-Table table).rows
-      (out-Table table).cells problem.cells of.made (placed-cells table style page inner given by))))
-      (subst IsLight (sym of.spaced) (style-light style))
+      (out-Table table).rows (inside_of style (out-Table table)) (out-Table table).cells problem.cells of.made (placed-cells table style page inner given by))))
+      (subst (λ n. IsLight problem.spacing n) (sym of.lines)
+      (subst (λ s. IsLight s (out-Table table).rows) (sym of.spaced) (style-light style (out-Table table))))
       (recursion_from_All (λ row. 1 ≤ row_weight problem.cells row) (range_with_len 0 problem.rows) (λ k d within.
       let long : k < problem.rows = omega (arith, within, length-range_with_len 0 problem.rows) in
       let at : get_or (range_with_len 0 problem.rows) k d ≡ k = omega (arith, get_or-range_with_len 0 problem.rows k d long) in
@@ -128,20 +127,19 @@ module _ (table : Table) (style : Style) (page : ℕ) (inner : List InnerSteps) 
       (2 * table_size table)
       (omega (
         arith,
-        cells-small inner style page (out-Table table).cells problem.cells of.made (have table style page inner given)
+        cells-small inner style page (inside_of style (out-Table table)) (out-Table table).cells problem.cells of.made (have table style page inner given)
             (recursion_from_All (λ cell. AllByRecursion (λ block. IsSpeltBlock (out-Content block)) (out-TableCell cell).blocks)
             (out-Table table).cells by.spelt),
         table_size-out table,
         AllZip-length (λ cell one. IsCellBy (InnerNeeds (λ any. any.low) inner) (InnerNeeds (λ any. any.high) inner) page
-            (out-TableCell cell) one)
-            (out-Table table).cells problem.cells of.made,
+            (inside_of style (out-Table table) cell) (out-TableCell cell) one) (out-Table table).cells problem.cells of.made,
       ))
     where
       has-weight : (row : ℕ) → row < problem.rows → 1 ≤ row_weight problem.cells row
       has-weight row within =
-          let found = any-made inner style page (λ (place : Place). place.top ≡ row) problem.cells
+          let found = any-made inner style page (inside_of style (out-Table table)) (λ (place : Place). place.top ≡ row) problem.cells
           (subst (Any (λ (place : Place). place.top ≡ row))
-          (sym (places-same inner style page (out-Table table).cells problem.cells of.made))
+          (sym (places-same inner style page (inside_of style (out-Table table)) (out-Table table).cells problem.cells of.made))
           (by.rows row (omega (arith, within, of.lines)))) in
           let weight = weight-le problem.cells found.0 found.1 found.2 in
           let top : (get_or problem.cells found.0 found.1).top ≡ row = ap (λ (one : Cell). one.top) found.3 ∙ found.4 in

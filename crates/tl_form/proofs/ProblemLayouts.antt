@@ -1,7 +1,7 @@
 -- Layouts of a table and of its problem: a layout that fits is one by bounds below, and one by bounds above is one that
 -- fits.
 use Rattle.tl_base.specs.declared.spacing.Spacing.{Spacing}
-use Rattle.std.proofs.Common.{◌≡◌, ℕ, ◌<◌, ◌≤◌, List, [], ◌∷◌, length, Some, sum, sum_by, refl, sym, ap, subst, ◌∙◌, arith}
+use Rattle.std.proofs.Common.{◌≡◌, ℕ, ◌+◌, ◌-◌, ◌<◌, ◌≤◌, List, [], ◌∷◌, length, Some, sum, sum_by, refl, sym, ap, subst, ◌∙◌, arith}
 use Rattle.std.specs.List.{All, AllZip, AllByRecursion, flat_map}
 use Rattle.std.proofs.lemmas.List.Elements.{recursion_from_All, All-from_recursion}
 use Rattle.std.proofs.lemmas.List.Sums.{sum_by-cons}
@@ -24,8 +24,8 @@ use Rattle.tl_table.specs.declared.cell.Table.{Table}
 use Rattle.tl_table.specs.declared.cell.TableCell.{TableCell, out-TableCell}
 use Rattle.tl_table.specs.declared.layout.Layout.{Layout}
 use Rattle.tl_table.specs.Tables.{OpenTable, OpenCell, OpenContent, inner_tables, tables_in, tables_of}
-use Rattle.tl_table.specs.Layouts.{OpenLayout, Share, FitsBy, FitsCell, FitsRoom, FitsShare}
-use Rattle.tl_form.specs.Problems.{BlockNeeds, CellNeeds, IsCellBy, IsProblemBy}
+use Rattle.tl_table.specs.Layouts.{OpenLayout, Share, FitsBy, FitsCell, FitsRoom, FitsShare, lines_of}
+use Rattle.tl_form.specs.Problems.{BlockNeeds, CellNeeds, IsCellBy, IsProblemBy, inside_of}
 use Rattle.tl_form.proofs.NeedSteps.{first-least}
 use Rattle.tl_form.proofs.ParagraphSteps.{lines-from_fit}
 use Rattle.tl_table.proofs.SoundParts.{both_each, each_joined}
@@ -70,12 +70,13 @@ module _ (fits : Table → ℕ → ℕ → Layout → Type 0) (needs : Table →
         omega (arith, sum-cons first.0 rest.0, sum_by-cons (λ (one : Share). one.height) share shares, first.2, rest.2),
       )
 
-  pub cell-below : (cell : OpenCell) (h : ℕ) (inner : List Layout) → AllByRecursion (IsBelowAt fits needs w) (tables_in cell) →
-      FitsRoom fits w h cell inner → (n : ℕ) × CellNeeds needs cell w n × (n ≤ h)
-  cell-below cell h inner below held =
+  pub cell-below : (inside : ℕ) (cell : OpenCell) (h : ℕ) (inner : List Layout) →
+      AllByRecursion (IsBelowAt fits needs w) (tables_in cell) → FitsRoom fits w h cell inner →
+      (n : ℕ) × CellNeeds needs inside cell w n × (n ≤ h - inside)
+  cell-below inside cell h inner below held =
       let all = blocks-below cell.blocks held.shares
       (each_joined (IsBelowAt fits needs w) (λ block. tables_of (out-Content block)) cell.blocks below) held.blocks in (
-        sum all.0,
+        sum all.0 - inside,
         record { floor = held.floor; heights = all.0; blocks = all.1; all = refl },
         omega (arith, all.2, held.within),
       )
@@ -114,10 +115,10 @@ module _ (fits : Table → ℕ → ℕ → Layout → Type 0) (needs : Table →
         omega (arith, sum-cons h heights, sum_by-cons (λ (one : Share). one.height) first.0 rest.0, first.2, rest.2),
       )
 
-  pub cell-above : (cell : OpenCell) (n h : ℕ) → AllByRecursion (IsAboveAt fits needs w) (tables_in cell) →
-      CellNeeds needs cell w n → n ≤ h →
+  pub cell-above : (inside : ℕ) (cell : OpenCell) (n h : ℕ) → AllByRecursion (IsAboveAt fits needs w) (tables_in cell) →
+      CellNeeds needs inside cell w n → n + inside ≤ h →
       (inner : List Layout) × FitsRoom fits w h cell inner
-  cell-above cell n h above need enough =
+  cell-above inside cell n h above need enough =
       let all = blocks-above cell.blocks need.heights
       (each_joined (IsAboveAt fits needs w) (λ block. tables_of (out-Content block)) cell.blocks above) need.blocks in (
         flat_map (λ share. share.inner) all.0,
@@ -133,9 +134,9 @@ module _ (fits : Table → ℕ → ℕ → Layout → Type 0) (needs : Table →
 
 -- ---- layouts of the table are layouts of its problem by bounds below
 
-module _ (lows highs : Table → ℕ → ℕ → Type 0) (style : Style) (page : ℕ) where
+module _ (lows highs : Table → ℕ → ℕ → Type 0) (style : Style) (page : ℕ) (table : OpenTable) where
   abbrev CellOf : TableCell → Cell → Type 0
-  CellOf cell made = IsCellBy lows highs page (out-TableCell cell) made
+  CellOf cell made = IsCellBy lows highs page (inside_of style table cell) (out-TableCell cell) made
 
   -- at these widths and heights a cell has a height by its steps, within its room
   abbrev HasRoom : (List ℕ) → (List ℕ) → Cell → Type 0
@@ -148,7 +149,7 @@ module _ (lows highs : Table → ℕ → ℕ → Type 0) (style : Style) (page :
       total (gap_of style) (edges_of style) layout.widths ≤ page →
       AllByRecursion (λ cell. AllByRecursion (λ nested. (w : ℕ) → w ≤ page →
       IsBelowAt fits lows w nested) (tables_in (out-TableCell cell))) cells →
-      AllZip (λ cell inner. FitsCell fits style layout (out-TableCell cell) inner) cells parts →
+      AllZip (λ cell inner. FitsCell fits style table layout (out-TableCell cell) inner) cells parts →
       AllByRecursion (HasRoom layout.widths layout.heights) made
   cells-low fits layout [] [] parts of placed narrow below held = tt
   cells-low fits layout [] (one ∷ made) parts of placed narrow below held = absurd of
@@ -171,7 +172,8 @@ module _ (lows highs : Table → ℕ → ℕ → Type 0) (style : Style) (page :
         room-total (gap_of style) (edges_of style) layout.widths one.left one.right placed.0.0 placed.0.1,
         narrow,
       ) in
-      let need = cell-below fits lows w open_cell h inner
+      let lines = inside_of style table cell in
+      let need = cell-below fits lows w lines open_cell (h + lines) inner
       (at-width (tables_in open_cell) w within below.0) held.0 in (
         (
           need.0,
@@ -213,13 +215,13 @@ module _ (lows highs : Table → ℕ → ℕ → Type 0) (style : Style) (page :
   low-steps (cell ∷ cells) (one ∷ made) of = (of.0.low.decreasing, low-steps cells made of.1)
 
   -- a layout of the table is one of the problem by `low`
-  pub layout-low : (table : OpenTable) (problem : ProblemModel) → IsProblemBy lows highs style page table problem →
+  pub layout-low : (problem : ProblemModel) → IsProblemBy lows highs style page table problem →
       AreInGrid problem →
       (fits : Table → ℕ → ℕ → Layout → Type 0) →
       AllByRecursion (λ nested. (w : ℕ) → w ≤ page → IsBelowAt fits lows w nested) (inner_tables table) →
       (height : ℕ) (layout : OpenLayout) → FitsBy fits style table page height layout →
       IsLayoutByLow problem layout.widths layout.heights × (total_height problem layout.heights ≡ height)
-  layout-low table problem of placed fits below height layout held = (
+  layout-low problem of placed fits below height layout held = (
     record {
       page = record {
         columns = held.columns ∙ sym of.columns;
@@ -275,8 +277,8 @@ module _ (lows highs : Table → ℕ → ℕ → Type 0) (style : Style) (page :
       IsAboveAt fits highs w nested) (tables_in (out-TableCell cell))) cells →
       (parts : List (List Layout)) × AllZip (λ cell inner. FitsRoom fits
       (room (gap_of style) widths (out-TableCell cell).place.left (out-TableCell cell).place.right)
-      (room (row_gap_of style) heights (out-TableCell cell).place.top (out-TableCell cell).place.bottom) (out-TableCell cell)
-      inner) cells parts
+      (room (row_gap_of style) heights (out-TableCell cell).place.top (out-TableCell cell).place.bottom + inside_of style table cell)
+      (out-TableCell cell) inner) cells parts
   cells-high fits widths heights [] [] of enough above = ([], tt)
   cells-high fits widths heights [] (one ∷ made) of enough above = absurd of
   cells-high fits widths heights (cell ∷ cells) [] of enough above = absurd of
@@ -294,7 +296,8 @@ module _ (lows highs : Table → ℕ → ℕ → Type 0) (style : Style) (page :
       let low = height-from_low one.high (room (row_gap_of style) heights one.top one.bottom)
       (room (gap_of style) widths one.left one.right) enough.0.1 in
       let need = (of.0.high.each w low.0 within).0 (ap (height_at one.high) (sym same) ∙ low.1) in
-      let first = cell-above fits highs w open_cell low.0 h (at-width (tables_in open_cell) w within above.0) need
+      let lines = inside_of style table cell in
+      let first = cell-above fits highs w lines open_cell low.0 (h + lines) (at-width (tables_in open_cell) w within above.0) need
       (omega (arith, high, low.2)) in
       let rest = cells-high fits widths heights cells made of.1 enough.1 above.1 in
       (first.0 ∷ rest.0, (first.1, rest.1))
@@ -306,21 +309,21 @@ module _ (lows highs : Table → ℕ → ℕ → Type 0) (style : Style) (page :
       at-width (table ∷ tables) w within all = (all.0 w within, at-width tables w within all.1)
 
   -- the widths and heights of a layout of the problem by `high` are those of a layout of the table
-  pub layout-high : (table : OpenTable) (problem : ProblemModel) → IsProblemBy lows highs style page table problem →
+  pub layout-high : (problem : ProblemModel) → IsProblemBy lows highs style page table problem →
       AreInGrid problem →
       (fits : Table → ℕ → ℕ → Layout → Type 0) →
       AllByRecursion (λ nested. (w : ℕ) → w ≤ page → IsAboveAt fits highs w nested) (inner_tables table) →
       (widths heights : List ℕ) → IsLayoutByHigh problem widths heights →
       (inner : List Layout) × FitsBy fits style table (total_width problem widths) (total_height problem heights)
       (record { widths = widths; heights = heights; inner = inner })
-  layout-high table problem of placed fits above widths heights laid = (
+  layout-high problem of placed fits above widths heights laid = (
     flat_map (λ inner. inner) found.0,
     record {
       columns = laid.page.columns ∙ of.columns;
       rows = laid.enough.rows ∙ of.lines;
       within = subst (λ (s : Spacing). total (gap_of style) (edges_of style) widths ≤ total s.gap s.edges widths) (sym of.spaced)
           (omega arith);
-      high = subst (λ (s : Spacing). total (row_gap_of style) (edges_of style) heights ≡ total s.row_gap s.lines heights)
+      high = subst (λ (s : Spacing). total (row_gap_of style) (lines_of style table) heights ≡ total s.row_gap s.lines heights)
           (sym of.spaced) refl;
       parts = found.0;
       cells = found.1;
@@ -360,8 +363,8 @@ module _ (lows highs : Table → ℕ → ℕ → Type 0) (style : Style) (page :
 
     found : (parts : List (List Layout)) × AllZip (λ cell inner. FitsRoom fits
         (room (gap_of style) widths (out-TableCell cell).place.left (out-TableCell cell).place.right)
-        (room (row_gap_of style) heights (out-TableCell cell).place.top (out-TableCell cell).place.bottom) (out-TableCell cell)
-        inner) table.cells parts
+        (room (row_gap_of style) heights (out-TableCell cell).place.top (out-TableCell cell).place.bottom
+        + inside_of style table cell) (out-TableCell cell) inner) table.cells parts
     found = cells-high fits widths heights table.cells problem.cells of.made enough
         (each_joined (λ nested. (w : ℕ) → w ≤ page → IsAboveAt fits highs w nested) (λ cell. tables_in (out-TableCell cell))
         table.cells above)

@@ -1,6 +1,6 @@
 -- The problem of a table is determined, its steps lie round the true ones, and it is the true problem where the bounds
 -- of nested tables meet.
-use Rattle.std.proofs.Common.{◌≡◌, ℕ, zero, suc, ◌≤◌, List, [], ◌∷◌, refl, sym, ap, subst, ◌∙◌, arith}
+use Rattle.std.proofs.Common.{◌≡◌, ℕ, zero, suc, ◌+◌, ◌≤◌, List, [], ◌∷◌, refl, sym, ap, subst, ◌∙◌, arith}
 use Rattle.std.specs.List.{AllZip, AllByRecursion}
 use Rattle.std.proofs.lemmas.List.Elements.{recursion_from_All, All-from_recursion}
 use Rattle.tl_base.specs.declared.style.Style.{Style}
@@ -21,6 +21,7 @@ use Rattle.tl_table.specs.Tables.{OpenTable, OpenCell, OpenContent, inner_tables
 use Rattle.tl_table.specs.Layouts.{OpenLayout, Fits, FitsWithin}
 use Rattle.tl_table.specs.Least.{IsLeastHeight}
 use Rattle.tl_form.specs.Problems.{BlockNeeds, CellNeeds, InnerNeeds, IsCellBy, IsProblemBy, IsProblemOf, IsTrueProblem}
+use Rattle.tl_form.specs.Problems.{inside_of}
 use Rattle.tl_form.specs.ProblemLaws.{IsBelowLayouts, IsAboveLayouts, LowIsBelow, HighIsAbove, BoundsMeet, CellIsBetween}
 use Rattle.tl_form.specs.ProblemLaws.{IsLeastByHigh}
 use Rattle.tl_form.proofs.CellNeedLemmas.{IsFunctional, cell-functional, inner-functional}
@@ -33,29 +34,29 @@ use Rattle.tl_form.proofs.Truth.{Fits-wider}
 -- ---- the problem is determined
 
 module _ (lows highs : Table → ℕ → ℕ → Type 0) (style : Style) (page : ℕ) where
-  same-cell : (cell : OpenCell) (one other : Cell) → IsCellBy lows highs page cell one → IsCellBy lows highs page cell other →
-      one ≡ other
-  same-cell cell one other first second =
+  same-cell : (inside : ℕ) (cell : OpenCell) (one other : Cell) → IsCellBy lows highs page inside cell one →
+      IsCellBy lows highs page inside cell other → one ≡ other
+  same-cell inside cell one other first second =
       let left : one.left ≡ other.left = first.left ∙ sym second.left in
       let right : one.right ≡ other.right = first.right ∙ sym second.right in
       let top : one.top ≡ other.top = first.top ∙ sym second.top in
       let bottom : one.bottom ≡ other.bottom = first.bottom ∙ sym second.bottom in
-      let low : one.low ≡ other.low = AreStepsOf-unique (CellNeeds lows cell) page one.low other.low first.low second.low in
-      let high : one.high ≡ other.high = AreStepsOf-unique (CellNeeds highs cell)
+      let low : one.low ≡ other.low = AreStepsOf-unique (CellNeeds lows inside cell) page one.low other.low first.low second.low in
+      let high : one.high ≡ other.high = AreStepsOf-unique (CellNeeds highs inside cell)
       page one.high other.high first.high second.high in
       λ i. record { left = left i; right = right i; top = top i; bottom = bottom i; low = low i; high = high i }
 
-  pub same-cells : (cells : List TableCell) (one other : List Cell) →
-      AllZip (λ cell made. IsCellBy lows highs page (out-TableCell cell) made) cells one →
-      AllZip (λ cell made. IsCellBy lows highs page (out-TableCell cell) made) cells other → one ≡ other
-  same-cells [] [] [] first second = refl
-  same-cells [] [] (b ∷ other) first second = absurd second
-  same-cells [] (a ∷ one) other first second = absurd first
-  same-cells (cell ∷ cells) [] other first second = absurd first
-  same-cells (cell ∷ cells) (a ∷ one) [] first second = absurd second
-  same-cells (cell ∷ cells) (a ∷ one) (b ∷ other) first second =
-      let head = same-cell (out-TableCell cell) a b first.0 second.0 in
-      let rest = same-cells cells one other first.1 second.1 in
+  pub same-cells : (inside : TableCell → ℕ) (cells : List TableCell) (one other : List Cell) →
+      AllZip (λ cell made. IsCellBy lows highs page (inside cell) (out-TableCell cell) made) cells one →
+      AllZip (λ cell made. IsCellBy lows highs page (inside cell) (out-TableCell cell) made) cells other → one ≡ other
+  same-cells inside [] [] [] first second = refl
+  same-cells inside [] [] (b ∷ other) first second = absurd second
+  same-cells inside [] (a ∷ one) other first second = absurd first
+  same-cells inside (cell ∷ cells) [] other first second = absurd first
+  same-cells inside (cell ∷ cells) (a ∷ one) [] first second = absurd second
+  same-cells inside (cell ∷ cells) (a ∷ one) (b ∷ other) first second =
+      let head = same-cell (inside cell) (out-TableCell cell) a b first.0 second.0 in
+      let rest = same-cells inside cells one other first.1 second.1 in
       λ i. head i ∷ rest i
 
   pub same-problem : (table : OpenTable) (one other : ProblemModel) → IsProblemBy lows highs style page table one →
@@ -65,7 +66,7 @@ module _ (lows highs : Table → ℕ → ℕ → Type 0) (style : Style) (page :
       let rows : one.rows ≡ other.rows = first.lines ∙ sym second.lines in
       let spacing : one.spacing ≡ other.spacing = first.spaced ∙ sym second.spaced in
       let width : one.width ≡ other.width = first.wide ∙ sym second.wide in
-      let cells : one.cells ≡ other.cells = same-cells table.cells one.cells other.cells first.made second.made in
+      let cells : one.cells ≡ other.cells = same-cells (inside_of style table) table.cells one.cells other.cells first.made second.made in
       λ i. record { cols = cols i; rows = rows i; spacing = spacing i; width = width i; cells = cells i }
 
 -- ---- a layout of the table by bounds below, and one of the problem by bounds above
@@ -79,7 +80,8 @@ module _ (lows highs : Table → ℕ → ℕ → Type 0) (table : Table) (style 
       (total_height problem (out-Layout layout).heights ≡ height)
   fits-low below height layout (zero, held) = absurd held
   fits-low below height layout (suc depth, held) =
-      layout-low lows highs style page (out-Table table) problem of (sound-in_grid lows highs style page problem sound)
+      layout-low lows highs style page (out-Table table) problem of
+      (sound-in_grid lows highs style page (out-Table table) problem sound)
       (FitsWithin depth style)
       (AllByRecursion-weaker (IsBelowLayouts lows style page) (λ nested. (w : ℕ) → w ≤ page →
       IsBelowAt (FitsWithin depth style) lows w nested)
@@ -92,7 +94,7 @@ module _ (lows highs : Table → ℕ → ℕ → Type 0) (table : Table) (style 
       × ((out-Layout layout).widths ≡ widths) × ((out-Layout layout).heights ≡ heights)
   high-fits above widths heights laid =
       let made = layout-high lows highs style page (out-Table table) problem of
-      (sound-in_grid lows highs style page problem sound)
+      (sound-in_grid lows highs style page (out-Table table) problem sound)
       (λ nested w h inner. Fits nested style w h inner)
       (AllByRecursion-weaker (IsAboveLayouts highs style page)
       (λ nested. (w : ℕ) → w ≤ page → IsAboveAt (λ one v h inner. Fits one style v h inner) highs w nested)
@@ -129,9 +131,9 @@ module _ (needs others : Table → ℕ → ℕ → Type 0) (w : ℕ) where
     blocks-so blocks heights so.1 need.1,
   )
 
-  pub cell-so : (cell : OpenCell) (h : ℕ) → AllByRecursion SoOfEach (tables_in cell) → CellNeeds needs cell w h →
-      CellNeeds others cell w h
-  cell-so cell h so need = record {
+  pub cell-so : (inside : ℕ) (cell : OpenCell) (h : ℕ) → AllByRecursion SoOfEach (tables_in cell) →
+      CellNeeds needs inside cell w h → CellNeeds others inside cell w h
+  cell-so inside cell h so need = record {
     floor = need.floor;
     heights = need.heights;
     blocks = blocks-so cell.blocks need.heights (each_joined SoOfEach (λ block. tables_of (out-Content block)) cell.blocks so)
@@ -156,9 +158,9 @@ module _ (needs : Table → ℕ → ℕ → Type 0) (w : ℕ) where
     blocks-inside blocks heights need.1,
   )
 
-  pub cell-inside : (cell : OpenCell) (h : ℕ) → CellNeeds needs cell w h →
+  pub cell-inside : (inside : ℕ) (cell : OpenCell) (h : ℕ) → CellNeeds needs inside cell w h →
       AllByRecursion (λ nested. (m : ℕ) × needs nested w m) (tables_in cell)
-  cell-inside cell h need =
+  cell-inside inside cell h need =
       joined-each (λ nested. (m : ℕ) × needs nested w m) (λ block. tables_of (out-Content block)) cell.blocks
       (blocks-inside cell.blocks need.heights need.blocks)
 
@@ -173,50 +175,50 @@ module _ (lows highs : Table → ℕ → ℕ → Type 0) (style : Style) (page :
   abbrev Real : Table → ℕ → ℕ → Type 0
   Real nested = IsLeastHeight nested style
 
-  between-cell : (cell : OpenCell) (made real : Cell) → IsCellBy lows highs page cell made → IsCellBy Real Real page cell real →
-      AllByRecursion (IsBelowLayouts lows style page) (tables_in cell) →
+  between-cell : (inside : ℕ) (cell : OpenCell) (made real : Cell) → IsCellBy lows highs page inside cell made →
+      IsCellBy Real Real page inside cell real → AllByRecursion (IsBelowLayouts lows style page) (tables_in cell) →
       AllByRecursion (IsAboveLayouts highs style page) (tables_in cell) →
       CellIsBetween page made real
-  between-cell cell made real of true below above = record {
+  between-cell inside cell made real of true below above = record {
     low = λ w h within is.
         let need = (true.low.each w h within).0 is in
-        let room = cell-above (λ nested v k layout. Fits nested style v k layout) Real w cell h h
+        let room = cell-above (λ nested v k layout. Fits nested style v k layout) Real w inside cell h (h + inside)
         (AllByRecursion-weaker (IsBelowLayouts lows style page)
         (IsAboveAt (λ nested v k layout. Fits nested style v k layout) Real w) (tables_in cell)
         (λ nested unused k least. (k, least.attained.0, least.attained.1, omega arith)) below) need (omega arith) in
-        let low = cell-below (λ nested v k layout. Fits nested style v k layout) lows w cell h room.0
+        let low = cell-below (λ nested v k layout. Fits nested style v k layout) lows w inside cell (h + inside) room.0
         (AllByRecursion-weaker (IsBelowLayouts lows style page)
         (IsBelowAt (λ nested v k layout. Fits nested style v k layout) lows w) (tables_in cell)
         (λ nested is_below k layout fits. is_below w k layout within fits) below) room.1 in
-        IsLowAt-higher made.low low.0 h w low.2 (IsLowAt-from made.low low.0 w ((of.low.each w low.0 within).1 low.1));
+        IsLowAt-higher made.low low.0 h w (omega (arith, low.2)) (IsLowAt-from made.low low.0 w ((of.low.each w low.0 within).1 low.1));
     high = λ w h k within is more.
         let need = (true.high.each w h within).0 is in
-        let room = cell-above (λ nested v m layout. Fits nested style v m layout) highs w cell k k
+        let room = cell-above (λ nested v m layout. Fits nested style v m layout) highs w inside cell k (k + inside)
         (AllByRecursion-weaker (IsAboveLayouts highs style page)
         (IsAboveAt (λ nested v m layout. Fits nested style v m layout) highs w) (tables_in cell)
         (λ nested is_above m bound. is_above w m within bound) above) ((of.high.each w k within).0 more) (omega arith) in
-        let low = cell-below (λ nested v m layout. Fits nested style v m layout) Real w cell k room.0
+        let low = cell-below (λ nested v m layout. Fits nested style v m layout) Real w inside cell (k + inside) room.0
         (AllByRecursion-weaker (λ nested. (m : ℕ) × Real nested w m)
         (IsBelowAt (λ nested v m layout. Fits nested style v m layout) Real w) (tables_in cell)
-        (λ nested some m layout fits. (some.0, some.1, some.1.least m layout fits)) (cell-inside Real w cell h need)) room.1 in
-        let same = cell-functional Real (least-functional style) cell w h low.0 need low.1 in
+        (λ nested some m layout fits. (some.0, some.1, some.1.least m layout fits)) (cell-inside Real w inside cell h need)) room.1 in
+        let same = cell-functional Real (least-functional style) inside cell w h low.0 need low.1 in
         omega (arith, same, low.2);
   }
 
-  pub between-cells : (cells : List TableCell) (made real : List Cell) →
-      AllZip (λ cell one. IsCellBy lows highs page (out-TableCell cell) one) cells made →
-      AllZip (λ cell one. IsCellBy Real Real page (out-TableCell cell) one) cells real →
+  pub between-cells : (inside : TableCell → ℕ) (cells : List TableCell) (made real : List Cell) →
+      AllZip (λ cell one. IsCellBy lows highs page (inside cell) (out-TableCell cell) one) cells made →
+      AllZip (λ cell one. IsCellBy Real Real page (inside cell) (out-TableCell cell) one) cells real →
       AllByRecursion (λ cell. AllByRecursion (IsBelowLayouts lows style page) (tables_in (out-TableCell cell))) cells →
       AllByRecursion (λ cell. AllByRecursion (IsAboveLayouts highs style page) (tables_in (out-TableCell cell))) cells →
       AllZip (CellIsBetween page) made real
-  between-cells [] [] [] of true below above = tt
-  between-cells [] [] (b ∷ real) of true below above = absurd true
-  between-cells [] (a ∷ made) real of true below above = absurd of
-  between-cells (cell ∷ cells) [] real of true below above = absurd of
-  between-cells (cell ∷ cells) (a ∷ made) [] of true below above = absurd true
-  between-cells (cell ∷ cells) (a ∷ made) (b ∷ real) of true below above = (
-    between-cell (out-TableCell cell) a b of.0 true.0 below.0 above.0,
-    between-cells cells made real of.1 true.1 below.1 above.1,
+  between-cells inside [] [] [] of true below above = tt
+  between-cells inside [] [] (b ∷ real) of true below above = absurd true
+  between-cells inside [] (a ∷ made) real of true below above = absurd of
+  between-cells inside (cell ∷ cells) [] real of true below above = absurd of
+  between-cells inside (cell ∷ cells) (a ∷ made) [] of true below above = absurd true
+  between-cells inside (cell ∷ cells) (a ∷ made) (b ∷ real) of true below above = (
+    between-cell (inside cell) (out-TableCell cell) a b of.0 true.0 below.0 above.0,
+    between-cells inside cells made real of.1 true.1 below.1 above.1,
   )
 
 pub steps-between : (table : Table) (style : Style) (page : ℕ) (inner : List InnerSteps) (problem real : ProblemModel) →
@@ -224,7 +226,7 @@ pub steps-between : (table : Table) (style : Style) (page : ℕ) (inner : List I
     HighIsAbove table style page inner → AllZip (CellIsBetween page) problem.cells real.cells
 steps-between table style page inner problem real of true below above =
     between-cells (InnerNeeds (λ one. one.low) inner) (InnerNeeds (λ one. one.high) inner) style page
-    (out-Table table).cells problem.cells real.cells
+    (inside_of style (out-Table table)) (out-Table table).cells problem.cells real.cells
     of.made true.made
     (each_joined (IsBelowLayouts (InnerNeeds (λ one. one.low) inner) style page) (λ cell. tables_in (out-TableCell cell))
     (out-Table table).cells below)
@@ -269,40 +271,41 @@ module _ (lows highs : Table → ℕ → ℕ → Type 0) (one_low : IsFunctional
   real-high : (nested : Table) (w h : ℕ) → w ≤ page → Meet nested → IsLeastHeight nested style w h → highs nested w h
   real-high nested w h within meet least = meet.same w h within (real-low nested w h within meet least)
 
-  real-cell : (cell : OpenCell) (made : Cell) → IsCellBy lows highs page cell made → AllByRecursion Meet (tables_in cell) →
-      IsCellBy (λ nested. IsLeastHeight nested style) (λ nested. IsLeastHeight nested style) page cell made
-  real-cell cell made of meet = record {
+  real-cell : (inside : ℕ) (cell : OpenCell) (made : Cell) → IsCellBy lows highs page inside cell made →
+      AllByRecursion Meet (tables_in cell) →
+      IsCellBy (λ nested. IsLeastHeight nested style) (λ nested. IsLeastHeight nested style) page inside cell made
+  real-cell inside cell made of meet = record {
     left = of.left;
     right = of.right;
     top = of.top;
     bottom = of.bottom;
-    low = AreStepsOf-same (CellNeeds lows cell) (CellNeeds (λ nested. IsLeastHeight nested style) cell) page made.low
-        (λ w h within need. cell-so lows (λ nested. IsLeastHeight nested style) w cell h
+    low = AreStepsOf-same (CellNeeds lows inside cell) (CellNeeds (λ nested. IsLeastHeight nested style) inside cell) page made.low
+        (λ w h within need. cell-so lows (λ nested. IsLeastHeight nested style) w inside cell h
         (AllByRecursion-weaker Meet (SoOfEach lows (λ nested. IsLeastHeight nested style) w) (tables_in cell)
         (λ nested one k low. low-real nested w k within one low) meet) need)
-        (λ w h within need. cell-so (λ nested. IsLeastHeight nested style) lows w cell h
+        (λ w h within need. cell-so (λ nested. IsLeastHeight nested style) lows w inside cell h
         (AllByRecursion-weaker Meet (SoOfEach (λ nested. IsLeastHeight nested style) lows w) (tables_in cell)
         (λ nested one k least. real-low nested w k within one least) meet) need) of.low;
-    high = AreStepsOf-same (CellNeeds highs cell) (CellNeeds (λ nested. IsLeastHeight nested style) cell) page made.high
-        (λ w h within need. cell-so highs (λ nested. IsLeastHeight nested style) w cell h
+    high = AreStepsOf-same (CellNeeds highs inside cell) (CellNeeds (λ nested. IsLeastHeight nested style) inside cell) page made.high
+        (λ w h within need. cell-so highs (λ nested. IsLeastHeight nested style) w inside cell h
         (AllByRecursion-weaker Meet (SoOfEach highs (λ nested. IsLeastHeight nested style) w) (tables_in cell)
         (λ nested one k high. high-real nested w k within one high) meet) need)
-        (λ w h within need. cell-so (λ nested. IsLeastHeight nested style) highs w cell h
+        (λ w h within need. cell-so (λ nested. IsLeastHeight nested style) highs w inside cell h
         (AllByRecursion-weaker Meet (SoOfEach (λ nested. IsLeastHeight nested style) highs w) (tables_in cell)
         (λ nested one k least. real-high nested w k within one least) meet) need) of.high;
   }
 
-  real-cells : (cells : List TableCell) (made : List Cell) →
-      AllZip (λ cell one. IsCellBy lows highs page (out-TableCell cell) one) cells made →
+  real-cells : (inside : TableCell → ℕ) (cells : List TableCell) (made : List Cell) →
+      AllZip (λ cell one. IsCellBy lows highs page (inside cell) (out-TableCell cell) one) cells made →
       AllByRecursion (λ cell. AllByRecursion Meet (tables_in (out-TableCell cell))) cells →
       AllZip (λ cell one. IsCellBy (λ nested. IsLeastHeight nested style) (λ nested. IsLeastHeight nested style) page
-      (out-TableCell cell) one) cells made
-  real-cells [] [] of meet = tt
-  real-cells [] (one ∷ made) of meet = absurd of
-  real-cells (cell ∷ cells) [] of meet = absurd of
-  real-cells (cell ∷ cells) (one ∷ made) of meet = (
-    real-cell (out-TableCell cell) one of.0 meet.0,
-    real-cells cells made of.1 meet.1,
+      (inside cell) (out-TableCell cell) one) cells made
+  real-cells inside [] [] of meet = tt
+  real-cells inside [] (one ∷ made) of meet = absurd of
+  real-cells inside (cell ∷ cells) [] of meet = absurd of
+  real-cells inside (cell ∷ cells) (one ∷ made) of meet = (
+    real-cell (inside cell) (out-TableCell cell) one of.0 meet.0,
+    real-cells inside cells made of.1 meet.1,
   )
 
   pub real-problem : (table : Table) (problem : ProblemModel) → IsProblemBy lows highs style page (out-Table table) problem →
@@ -312,7 +315,7 @@ module _ (lows highs : Table → ℕ → ℕ → Type 0) (one_low : IsFunctional
     lines = of.lines;
     spaced = of.spaced;
     wide = of.wide;
-    made = real-cells (out-Table table).cells problem.cells of.made
+    made = real-cells (inside_of style (out-Table table)) (out-Table table).cells problem.cells of.made
         (each_joined Meet (λ cell. tables_in (out-TableCell cell)) (out-Table table).cells meet);
   }
 
@@ -324,13 +327,13 @@ true-low-is-high table style page problem of = by_cells (out-Table table).cells 
   where
     by_cells : (cells : List TableCell) (made : List Cell) →
         AllZip (λ cell one. IsCellBy (λ nested. IsLeastHeight nested style) (λ nested. IsLeastHeight nested style) page
-        (out-TableCell cell) one) cells made →
+        (inside_of style (out-Table table) cell) (out-TableCell cell) one) cells made →
         AllByRecursion (λ one. one.low ≡ one.high) made
     by_cells [] [] each = tt
     by_cells [] (one ∷ made) each = absurd each
     by_cells (cell ∷ cells) [] each = absurd each
     by_cells (cell ∷ cells) (one ∷ made) each = (
-      AreStepsOf-unique (CellNeeds (λ nested. IsLeastHeight nested style) (out-TableCell cell))
+      AreStepsOf-unique (CellNeeds (λ nested. IsLeastHeight nested style) (inside_of style (out-Table table) cell) (out-TableCell cell))
           page one.low one.high each.0.low each.0.high,
       by_cells cells made each.1,
     )

@@ -1,5 +1,4 @@
 -- The problem of a sound table that fits the page is sound, where the steps of its nested tables are.
-use Rattle.tl_base.specs.Style.{spacing_of}
 use Rattle.std.proofs.Common.{◌≡◌, ℕ, zero, suc, ◌+◌, ◌*◌, ◌<◌, ◌≤◌, max, List, [], ◌∷◌, length, get_or, map, sum_by, refl, sym}
 use Rattle.std.proofs.Common.{ap, subst, ◌∙◌, arith}
 use Rattle.std.specs.List.{All, AllPairs, AllZip, AllByRecursion, Any}
@@ -24,11 +23,12 @@ use Rattle.tl_table.specs.declared.cell.TableCell.{TableCell, out-TableCell}
 use Rattle.tl_form.specs.declared.heights.InnerSteps.{InnerSteps}
 use Rattle.tl_table.specs.declared.layout.Layout.{Layout, out-Layout}
 use Rattle.tl_table.specs.Tables.{tables_in}
-use Rattle.tl_table.specs.Layouts.{Fits, FitsBy, FitsRoom, FitsWithin}
-use Rattle.tl_form.specs.Problems.{CellNeeds, HasSoundProblem, InnerNeeds, IsCellBy}
+use Rattle.tl_table.specs.Layouts.{Fits, FitsBy, FitsRoom, FitsWithin, lines_of, spacing_in}
+use Rattle.tl_form.specs.Problems.{CellNeeds, HasSoundProblem, InnerNeeds, IsCellBy, inside_of}
 use Rattle.tl_table.specs.Sound.{IsSoundBy, IsSoundWithin, IsSpeltBlock, cell_size, place_of}
 use Rattle.tl_form.specs.SoundProblems.{AreSoundPremises}
 use Rattle.tl_form.proofs.CellNeedLemmas.{inner-functional}
+use Rattle.tl_form.proofs.LowPlacements.{lines-least}
 use Rattle.tl_form.proofs.NeedSteps.{first-least}
 use Rattle.tl_form.proofs.ProblemCells.{first-need}
 use Rattle.tl_table.proofs.SizesOpen.{table_size-out}
@@ -40,7 +40,7 @@ use Rattle.tl_form.proofs.Truth.{Fits-wider}
 abbrev pub made_place : Cell → Place
 made_place made = record { left = made.left; right = made.right; top = made.top; bottom = made.bottom }
 
-module _ (inner : List InnerSteps) (style : Style) (page : ℕ) where
+module _ (inner : List InnerSteps) (style : Style) (page : ℕ) (lines : TableCell → ℕ) where
   abbrev lows : Table → ℕ → ℕ → Type 0
   lows = InnerNeeds (λ one. one.low) inner
 
@@ -48,17 +48,17 @@ module _ (inner : List InnerSteps) (style : Style) (page : ℕ) where
   highs = InnerNeeds (λ one. one.high) inner
 
   abbrev Made : TableCell → Cell → Type 0
-  Made cell made = IsCellBy lows highs page (out-TableCell cell) made
+  Made cell made = IsCellBy lows highs page (lines cell) (out-TableCell cell) made
 
   -- ---- the cells of a layout that fits have heights, and steps
 
   cells-made : (cells : List TableCell) →
       AllByRecursion (λ cell. AllByRecursion (HasSound inner style page) (tables_in (out-TableCell cell))) cells →
-      AllByRecursion (λ cell. (h : ℕ) × CellNeeds lows (out-TableCell cell) page h) cells →
+      AllByRecursion (λ cell. (h : ℕ) × CellNeeds lows (lines cell) (out-TableCell cell) page h) cells →
       (made : List Cell) × AllZip Made cells made
   cells-made [] have some = ([], tt)
   cells-made (cell ∷ cells) have some =
-      let first = cell-made inner style page (out-TableCell cell) have.0 some.0.0 some.0.1 in
+      let first = cell-made inner style page (lines cell) (out-TableCell cell) have.0 some.0.0 some.0.1 in
       let rest = cells-made cells have.1 some.1 in
       (first.0 ∷ rest.0, (first.1, rest.1))
 
@@ -138,8 +138,8 @@ module _ (inner : List InnerSteps) (style : Style) (page : ℕ) where
       columns = (omega (arith, of.0.left, of.0.right, placed.0.0), omega (arith, of.0.right, placed.0.1));
       rows = (omega (arith, of.0.top, of.0.bottom, placed.0.2), omega (arith, of.0.bottom, placed.0.3));
       steps = (of.0.low.decreasing, of.0.high.decreasing);
-      same_least = same-first inner style page (out-TableCell cell) have.0 one of.0;
-      low_below = below-all inner style page (out-TableCell cell) have.0 one of.0;
+      same_least = same-first inner style page (lines cell) (out-TableCell cell) have.0 one of.0;
+      low_below = below-all inner style page (lines cell) (out-TableCell cell) have.0 one of.0;
     },
     sound-cells problem cells made of.1 have.1 placed.1,
   )
@@ -154,12 +154,12 @@ module _ (inner : List InnerSteps) (style : Style) (page : ℕ) where
   cells-small [] (one ∷ made) of have spelt = absurd of
   cells-small (cell ∷ cells) [] of have spelt = absurd of
   cells-small (cell ∷ cells) (one ∷ made) of have spelt =
-      let need = first-need highs (inner-functional (λ any. any.high) inner) page (out-TableCell cell) one.high of.0.high in
+      let need = first-need highs (inner-functional (λ any. any.high) inner) page (lines cell) (out-TableCell cell) one.high of.0.high in
       omega (
         arith,
         sum_by-cons (λ (any : Cell). first_height any.high) one made,
         sum_by-cons cell_size cell cells,
-        high-cell-small inner style page cell (first_width one.high) (first_height one.high) have.0 spelt.0 need,
+        high-cell-small inner style page (lines cell) cell (first_width one.high) (first_height one.high) have.0 spelt.0 need,
         cells-small cells made of.1 have.1 spelt.1,
       )
 
@@ -172,15 +172,16 @@ module _ (inner : List InnerSteps) (style : Style) (page : ℕ) where
       AllByRecursion (λ cell. ((place_of cell).left < (place_of cell).right) × ((place_of cell).right ≤ length widths)) cells →
       total (gap_of style) (edges_of style) widths ≤ page →
       AllZip (λ cell part. FitsRoom fits (room (gap_of style) widths (place_of cell).left (place_of cell).right)
-      (room (row_gap_of style) heights (place_of cell).top (place_of cell).bottom) (out-TableCell cell) part) cells parts →
+      (room (row_gap_of style) heights (place_of cell).top (place_of cell).bottom + lines cell) (out-TableCell cell) part) cells
+      parts →
       AllByRecursion (λ cell. (w k : ℕ) × (w ≡ room (gap_of style) widths (place_of cell).left (place_of cell).right) × (w ≤ page)
-      × CellNeeds lows (out-TableCell cell) w k) cells
+      × CellNeeds lows (lines cell) (out-TableCell cell) w k) cells
   cells-fit fits any widths heights [] parts have placed narrow held = tt
   cells-fit fits any widths heights (cell ∷ cells) [] have placed narrow held = absurd held
   cells-fit fits any widths heights (cell ∷ cells) (part ∷ parts) have placed narrow held =
       let w = room (gap_of style) widths (place_of cell).left (place_of cell).right in
-      let some = cell-fits-low inner style page (out-TableCell cell) have.0 fits any w
-      (room (row_gap_of style) heights (place_of cell).top (place_of cell).bottom) part held.0 in (
+      let some = cell-fits-low inner style page (lines cell) (out-TableCell cell) have.0 fits any w
+      (room (row_gap_of style) heights (place_of cell).top (place_of cell).bottom + lines cell) part held.0 in (
         (
           w,
           some.0,
@@ -200,18 +201,18 @@ module _ (inner : List InnerSteps) (style : Style) (page : ℕ) where
   cells-page : (widths : List ℕ) (cells : List TableCell) →
       AllByRecursion (λ cell. AllByRecursion (HasSound inner style page) (tables_in (out-TableCell cell))) cells →
       AllByRecursion (λ cell. (w k : ℕ) × (w ≡ room (gap_of style) widths (place_of cell).left (place_of cell).right) × (w ≤ page)
-      × CellNeeds lows (out-TableCell cell) w k) cells → AllByRecursion
-      (λ cell. (h : ℕ) × CellNeeds lows (out-TableCell cell) page h) cells
+      × CellNeeds lows (lines cell) (out-TableCell cell) w k) cells → AllByRecursion
+      (λ cell. (h : ℕ) × CellNeeds lows (lines cell) (out-TableCell cell) page h) cells
   cells-page widths [] have fit = tt
   cells-page widths (cell ∷ cells) have fit = (
-    cell-wider inner style page (out-TableCell cell) have.0 fit.0.0 fit.0.1 fit.0.3 fit.0.4,
+    cell-wider inner style page (lines cell) (out-TableCell cell) have.0 fit.0.0 fit.0.1 fit.0.3 fit.0.4,
     cells-page widths cells have.1 fit.1,
   )
 
   -- and its least width
   cells-within : (widths : List ℕ) (cells : List TableCell) (made : List Cell) → AllZip Made cells made →
       AllByRecursion (λ cell. (w k : ℕ) × (w ≡ room (gap_of style) widths (place_of cell).left (place_of cell).right) × (w ≤ page)
-      × CellNeeds lows (out-TableCell cell) w k) cells →
+      × CellNeeds lows (lines cell) (out-TableCell cell) w k) cells →
       AllByRecursion (λ one. first_width one.low ≤ room (gap_of style) widths one.left one.right) made
   cells-within widths [] [] of fit = tt
   cells-within widths [] (one ∷ made) of fit = absurd of
@@ -248,19 +249,19 @@ module _ (table : Table) (style : Style) (page : ℕ) (inner : List InnerSteps)
     problem,
     record { columns = refl; lines = refl; spaced = refl; wide = refl; made = made.1 },
     record {
-      spaced = spacing-sound style;
+      spaced = spacing-sound style (lines_of style (out-Table table)) (omega (arith, lines-least style (out-Table table), by.few_rows));
       few_columns = by.few_columns;
       few_rows = by.few_rows;
       narrow = given.narrow;
       cells = All-from_recursion (IsSoundCell problem) made.0 sound-made;
-      apart = apart-cells inner style page made.0
+      apart = apart-cells inner style page lines made.0
           (All-from_recursion (λ one. (one.left < one.right) × (one.top < one.bottom)) made.0
           (AllByRecursion-weaker (IsSoundCell problem) (λ one. (one.left < one.right) × (one.top < one.bottom)) made.0
           (λ one is. (is.columns.0, is.rows.0)) sound-made))
           (subst (AllPairs AreApart) (sym places) by.apart);
-      columns = λ column within. any-made inner style page (λ place. place.left ≡ column) made.0
+      columns = λ column within. any-made inner style page lines (λ place. place.left ≡ column) made.0
           (subst (Any (λ (place : Place). place.left ≡ column)) (sym places) (by.columns column within));
-      rows = λ row within. any-made inner style page (λ place. place.top ≡ row) made.0
+      rows = λ row within. any-made inner style page lines (λ place. place.top ≡ row) made.0
           (subst (Any (λ (place : Place). place.top ≡ row)) (sym places) (by.rows row within));
       low_enough = omega (arith, small, table_size-out table, given.sound.size);
       fits = (
@@ -270,7 +271,7 @@ module _ (table : Table) (style : Style) (page : ℕ) (inner : List InnerSteps)
           page = held.within;
           cells = All-from_recursion (λ one. first_width one.low ≤ room (gap_of style)
               (out-Layout layout).widths one.left one.right) made.0
-              (cells-within inner style page (out-Layout layout).widths (out-Table table).cells made.0 made.1 fit);
+              (cells-within inner style page lines (out-Layout layout).widths (out-Table table).cells made.0 made.1 fit);
         },
       );
     },
@@ -278,32 +279,42 @@ module _ (table : Table) (style : Style) (page : ℕ) (inner : List InnerSteps)
     widths : List ℕ
     widths = (out-Layout layout).widths
 
+    -- the lines inside each cell
+    lines : TableCell → ℕ
+    lines = inside_of style (out-Table table)
+
     fit : AllByRecursion (λ cell. (w k : ℕ) × (w ≡ room (gap_of style) widths (place_of cell).left (place_of cell).right) ×
         (w ≤ page)
-        × CellNeeds (lows inner style page) (out-TableCell cell) w k) (out-Table table).cells
-    fit = cells-fit inner style page (FitsWithin depth style) (λ nested v h one fits. (depth, fits)) widths
+        × CellNeeds (lows inner style page lines) (lines cell) (out-TableCell cell) w k) (out-Table table).cells
+    fit = cells-fit inner style page lines (FitsWithin depth style) (λ nested v h one fits. (depth, fits)) widths
         (out-Layout layout).heights
         (out-Table table).cells held.parts have
         (AllByRecursion-weaker (λ cell. IsPlaced (out-Table table).cols (out-Table table).rows (place_of cell))
         (λ cell. ((place_of cell).left < (place_of cell).right) × ((place_of cell).right ≤ length widths)) (out-Table table).cells
         (λ cell at. (at.0, omega (arith, at.1, held.columns))) (placed-cells by)) held.within held.cells
 
-    made : (made : List Cell) × AllZip (Made inner style page) (out-Table table).cells made
-    made = cells-made inner style page (out-Table table).cells have
-        (cells-page inner style page widths (out-Table table).cells have fit)
+    made : (made : List Cell) × AllZip (Made inner style page lines) (out-Table table).cells made
+    made = cells-made inner style page lines (out-Table table).cells have
+        (cells-page inner style page lines widths (out-Table table).cells have fit)
 
     problem : ProblemModel
-    problem = record { cols = (out-Table table).cols; rows = (out-Table table).rows; spacing = spacing_of style; width = page; cells = made.0 }
+    problem = record {
+      cols = (out-Table table).cols;
+      rows = (out-Table table).rows;
+      spacing = spacing_in style (out-Table table);
+      width = page;
+      cells = made.0;
+    }
 
     sound-made : AllByRecursion (IsSoundCell problem) made.0
-    sound-made = sound-cells inner style page problem (out-Table table).cells made.0 made.1 have (placed-cells by)
+    sound-made = sound-cells inner style page lines problem (out-Table table).cells made.0 made.1 have (placed-cells by)
 
     places : map made_place made.0 ≡ map place_of (out-Table table).cells
-    places = places-same inner style page (out-Table table).cells made.0 made.1
+    places = places-same inner style page lines (out-Table table).cells made.0 made.1
 
     small : sum_by (λ one. first_height one.high) made.0 + 2 * length (out-Table table).cells ≤ 2 * sum_by cell_size
         (out-Table table).cells
-    small = cells-small inner style page (out-Table table).cells made.0 made.1 have
+    small = cells-small inner style page lines (out-Table table).cells made.0 made.1 have
         (recursion_from_All (λ cell. AllByRecursion (λ block. IsSpeltBlock (out-Content block)) (out-TableCell cell).blocks)
         (out-Table table).cells by.spelt)
 

@@ -4,6 +4,7 @@ use Rattle.std.specs.Option.{IsSomeAnd}
 use Rattle.tl_base.specs.declared.style.Style.{Style}
 use Rattle.tl_base.specs.declared.steps.Config.{Config}
 use Rattle.tl_base.specs.Steps.{height_at}
+use Rattle.tl_base.specs.Style.{spacing_of}
 use Rattle.tl_grid.specs.declared.shape.Place.{Place}
 use Rattle.tl_problem.specs.declared.cell.Cell.{Cell}
 use Rattle.tl_problem.specs.Problem.{ProblemModel}
@@ -16,11 +17,14 @@ use Rattle.tl_table.specs.declared.cell.Table.{Table, out-Table}
 use Rattle.tl_table.specs.declared.cell.TableCell.{out-TableCell}
 use Rattle.tl_form.specs.declared.heights.InnerSteps.{InnerSteps}
 use Rattle.tl_form.specs.Nested.{AreStepsBy, AreInnerSteps, IsGreatestLower, IsLeastFound}
-use Rattle.tl_form.specs.Problems.{AreStepsOf, BlockNeeds, CellNeeds, InnerNeeds, IsCellBy, IsProblemBy, IsProblemOf, steps_for}
+use Rattle.tl_form.specs.Problems.{AreStepsOf, BlockNeeds, CellNeeds, InnerNeeds, IsCellBy, IsProblemBy, IsProblemOf, inside_of}
+use Rattle.tl_form.specs.Problems.{steps_for}
 use Rattle.tl_table.specs.Same.{AreSameContent, AreSameCell, AreSameBy, AreSame}
-use Rattle.tl_table.specs.Tables.{OpenTable, OpenCell, OpenContent, inner_tables}
+use Rattle.tl_table.specs.Layouts.{lines_inside}
+use Rattle.tl_table.specs.Tables.{OpenTable, OpenCell, OpenContent, inner_tables, place_of}
 use Rattle.tl_form.proofs.NeedSteps.{AreStepsOf-same}
 use Rattle.tl_table.proofs.SameFits.{same_least}
+use Rattle.tl_table.proofs.SameHeads.{inside_same, lines_same}
 use Rattle.tl_table.proofs.SameTables.{cell_turned, inner_same, same_number, same_opened, same_turned, zip_over}
 
 -- ---- what a cell needs
@@ -36,8 +40,9 @@ module _ (needs : Table → ℕ → ℕ → Type 0) (each : AreShared needs) whe
   block_same (open_content.Table box) (open_content.Para q) w h is need = absurd is
   block_same (open_content.Table box) (open_content.Table crate) w h is need = each box.value crate.value w h is need
 
-  needs_same : (a b : OpenCell) (w h : ℕ) → AreSameCell AreSame a b → CellNeeds needs a w h → CellNeeds needs b w h
-  needs_same a b w h is need = record {
+  needs_same : (inside : ℕ) (a b : OpenCell) (w h : ℕ) → AreSameCell AreSame a b → CellNeeds needs inside a w h →
+      CellNeeds needs inside b w h
+  needs_same inside a b w h is need = record {
     floor = omega (arith, is.least, need.floor);
     heights = need.heights;
     blocks = zip_over (λ c d. AreSameContent AreSame (out-Content c) (out-Content d))
@@ -48,25 +53,26 @@ module _ (needs : Table → ℕ → ℕ → Type 0) (each : AreShared needs) whe
     all = need.all;
   }
 
-  steps_same : (a b : OpenCell) (page : ℕ) (steps : List Config) → AreSameCell AreSame a b →
-      AreStepsOf (CellNeeds needs a) page steps →
-      AreStepsOf (CellNeeds needs b) page steps
-  steps_same a b page steps is of =
-      AreStepsOf-same (CellNeeds needs a) (CellNeeds needs b) page steps (λ w h within. needs_same a b w h is)
-      (λ w h within. needs_same b a w h (cell_turned AreSame AreSame same_turned a b is)) of
+  steps_same : (inside : ℕ) (a b : OpenCell) (page : ℕ) (steps : List Config) → AreSameCell AreSame a b →
+      AreStepsOf (CellNeeds needs inside a) page steps →
+      AreStepsOf (CellNeeds needs inside b) page steps
+  steps_same inside a b page steps is of =
+      AreStepsOf-same (CellNeeds needs inside a) (CellNeeds needs inside b) page steps
+      (λ w h within. needs_same inside a b w h is)
+      (λ w h within. needs_same inside b a w h (cell_turned AreSame AreSame same_turned a b is)) of
 
 -- ---- the problem
 
 module _ (lows highs : Table → ℕ → ℕ → Type 0) (low : AreShared lows) (high : AreShared highs) where
-  made_same : (a b : OpenCell) (page : ℕ) (made : Cell) → AreSameCell AreSame a b → IsCellBy lows highs page a made →
-      IsCellBy lows highs page b made
-  made_same a b page made is one = record {
+  made_same : (inside : ℕ) (a b : OpenCell) (page : ℕ) (made : Cell) → AreSameCell AreSame a b →
+      IsCellBy lows highs page inside a made → IsCellBy lows highs page inside b made
+  made_same inside a b page made is one = record {
     left = one.left ∙ ap (λ (p : Place). p.left) is.place;
     right = one.right ∙ ap (λ (p : Place). p.right) is.place;
     top = one.top ∙ ap (λ (p : Place). p.top) is.place;
     bottom = one.bottom ∙ ap (λ (p : Place). p.bottom) is.place;
-    low = steps_same lows low a b page made.low is one.low;
-    high = steps_same highs high a b page made.high is one.high;
+    low = steps_same lows low inside a b page made.low is one.low;
+    high = steps_same highs high inside a b page made.high is one.high;
   }
 
   problem_same : (style : Style) (page : ℕ) (a b : OpenTable) (problem : ProblemModel) → AreSameBy AreSame a b →
@@ -74,12 +80,14 @@ module _ (lows highs : Table → ℕ → ℕ → Type 0) (low : AreShared lows) 
   problem_same style page a b problem is one = record {
     columns = one.columns ∙ is.cols;
     lines = one.lines ∙ is.rows;
-    spaced = one.spaced;
+    spaced = one.spaced ∙ ap (spacing_of style) (lines_same a b is style);
     wide = one.wide;
     made = zip_over (λ c d. AreSameCell AreSame (out-TableCell c) (out-TableCell d))
-        (λ c made. IsCellBy lows highs page (out-TableCell c) made)
-        (λ d made. IsCellBy lows highs page (out-TableCell d) made)
-        (λ c d made each. made_same (out-TableCell c) (out-TableCell d) page made each)
+        (λ c made. IsCellBy lows highs page (inside_of style a c) (out-TableCell c) made)
+        (λ d made. IsCellBy lows highs page (inside_of style b d) (out-TableCell d) made)
+        (λ c d made each made_by. subst (λ inside. IsCellBy lows highs page inside (out-TableCell d) made)
+        (ap (λ (p : Place). lines_inside style a p) each.place ∙ inside_same a b is style (place_of d))
+        (made_same (inside_of style a c) (out-TableCell c) (out-TableCell d) page made each made_by))
         a.cells b.cells problem.cells is.cells one.made;
   }
 

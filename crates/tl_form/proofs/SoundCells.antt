@@ -109,24 +109,24 @@ module _ (inner : List InnerSteps) (style : Style) (page : ℕ) where
 
   -- ---- a cell whose nested tables have sound steps
 
-  module _ (cell : OpenCell) (have : AllByRecursion HasSound (tables_in cell)) where
+  module _ (lines : ℕ) (cell : OpenCell) (have : AllByRecursion HasSound (tables_in cell)) where
     have-low : AllByRecursion (HasStart lows) (tables_in cell)
     have-low = AllByRecursion-weaker HasSound (HasStart lows) (tables_in cell) low-start have
 
     have-high : AllByRecursion (HasStart highs) (tables_in cell)
     have-high = AllByRecursion-weaker HasSound (HasStart highs) (tables_in cell) high-start have
 
-    cell-low-high : (w h : ℕ) → CellNeeds lows cell w h → (k : ℕ) × CellNeeds highs cell w k
+    cell-low-high : (w h : ℕ) → CellNeeds lows lines cell w h → (k : ℕ) × CellNeeds highs lines cell w k
     cell-low-high w h need =
-        let by = cell-by (λ m n. Unit {0}) adds-any lows highs w cell h
+        let by = cell-by (λ m n. Unit {0}) adds-any lows highs w lines cell h
         (AllByRecursion-weaker HasSound (λ nested. (m : ℕ) → lows nested w m →
         (n : ℕ) × highs nested w n × Unit {0}) (tables_in cell)
         (λ nested has m low. let high = low-high nested w m has low in (high.0, high.1, tt)) have) need in
         (by.0, by.1)
 
-    cell-high-low : (w h : ℕ) → w ≤ page → CellNeeds highs cell w h → (k : ℕ) × CellNeeds lows cell w k × (k ≤ h)
+    cell-high-low : (w h : ℕ) → w ≤ page → CellNeeds highs lines cell w h → (k : ℕ) × CellNeeds lows lines cell w k × (k ≤ h)
     cell-high-low w h within need =
-        cell-by (λ m n. n ≤ m) adds-less highs lows w cell h
+        cell-by (λ m n. n ≤ m) adds-less highs lows w lines cell h
         (AllByRecursion-weaker HasSound (λ nested. (m : ℕ) → highs nested w m →
         (n : ℕ) × lows nested w n × (n ≤ m)) (tables_in cell)
         (λ nested has m high. high-low nested w m within has high) have) need
@@ -137,37 +137,37 @@ module _ (inner : List InnerSteps) (style : Style) (page : ℕ) where
 
     pub cell-fits-low : (fits : Table → ℕ → ℕ → Layout → Type 0) →
         ((nested : Table) (v height : ℕ) (layout : Layout) → fits nested v height layout → Fits nested style v height layout) →
-        (w h : ℕ) (parts : List Layout) → FitsRoom fits w h cell parts → (k : ℕ) × CellNeeds lows cell w k
+        (w h : ℕ) (parts : List Layout) → FitsRoom fits w h cell parts → (k : ℕ) × CellNeeds lows lines cell w k
     cell-fits-low fits any w h parts room =
-        let flat = cell-below fits Flat w cell h parts
+        let flat = cell-below fits Flat w lines cell h parts
         (AllByRecursion-weaker HasSound (IsBelowAt fits Flat w) (tables_in cell)
         (λ nested has height layout held. (
           0,
           (fits-low nested w height layout has (any nested w height layout held), refl),
           omega arith,
         )) have) room in
-        let by = cell-by (λ m n. Unit {0}) adds-any Flat lows w cell flat.0
+        let by = cell-by (λ m n. Unit {0}) adds-any Flat lows w lines cell flat.0
         (AllByRecursion-weaker HasSound (λ nested. (m : ℕ) → Flat nested w m →
         (n : ℕ) × lows nested w n × Unit {0}) (tables_in cell)
         (λ nested has m low. (low.0.0, low.0.1, tt)) have) flat.1 in
         (by.0, by.1)
 
     -- and one on the page
-    pub cell-wider : (w k : ℕ) → w ≤ page → CellNeeds lows cell w k → (h : ℕ) × CellNeeds lows cell page h
+    pub cell-wider : (w k : ℕ) → w ≤ page → CellNeeds lows lines cell w k → (h : ℕ) × CellNeeds lows lines cell page h
     cell-wider w k within need =
-        let begins = (cell-begins lows cell have-low).1 in
+        let begins = (cell-begins lows lines cell have-low).1 in
         begins.has page (omega (arith, begins.from w k need, within))
 
     -- ---- its steps
 
     -- where it has a height on the page it has steps
-    pub cell-made : (h : ℕ) → CellNeeds lows cell page h → (made : Cell) × IsCellBy lows highs page cell made
+    pub cell-made : (h : ℕ) → CellNeeds lows lines cell page h → (made : Cell) × IsCellBy lows highs page lines cell made
     cell-made h need =
         let high = cell-low-high page h need in
-        let low_begins = cell-begins lows cell have-low in
-        let high_begins = cell-begins highs cell have-high in
-        let low_steps = cell-steps lows cell have-low page (low_begins.1.from page h need) in
-        let high_steps = cell-steps highs cell have-high page (high_begins.1.from page high.0 high.1) in (
+        let low_begins = cell-begins lows lines cell have-low in
+        let high_begins = cell-begins highs lines cell have-high in
+        let low_steps = cell-steps lows lines cell have-low page (low_begins.1.from page h need) in
+        let high_steps = cell-steps highs lines cell have-high page (high_begins.1.from page high.0 high.1) in (
           record {
             left = cell.place.left;
             right = cell.place.right;
@@ -179,7 +179,7 @@ module _ (inner : List InnerSteps) (style : Style) (page : ℕ) where
           record { left = refl; right = refl; top = refl; bottom = refl; low = low_steps.1; high = high_steps.1 },
         )
 
-    module _ (made : Cell) (of : IsCellBy lows highs page cell made) where
+    module _ (made : Cell) (of : IsCellBy lows highs page lines cell made) where
       inside-low : first_width made.low ≤ page
       inside-low = first_width-within page made.low of.low.decreasing of.low.within
 
@@ -188,8 +188,8 @@ module _ (inner : List InnerSteps) (style : Style) (page : ℕ) where
 
       pub same-first : first_width made.low ≡ first_width made.high
       same-first =
-          let low = first-need lows (inner-functional (λ one. one.low) inner) page cell made.low of.low in
-          let high = first-need highs (inner-functional (λ one. one.high) inner) page cell made.high of.high in
+          let low = first-need lows (inner-functional (λ one. one.low) inner) page lines cell made.low of.low in
+          let high = first-need highs (inner-functional (λ one. one.high) inner) page lines cell made.high of.high in
           let there = cell-low-high (first_width made.low) (first_height made.low) low in
           let back = cell-high-low (first_width made.high) (first_height made.high) inside-high high in
           let one = first-least made.high of.high.decreasing (first_width made.low) there.0
@@ -217,12 +217,12 @@ module _ (inner : List InnerSteps) (style : Style) (page : ℕ) where
           ]
 
   -- a height of a cell is small
-  pub high-cell-small : (cell : TableCell) (w h : ℕ) → AllByRecursion HasSound (tables_in (out-TableCell cell)) →
+  pub high-cell-small : (lines : ℕ) (cell : TableCell) (w h : ℕ) → AllByRecursion HasSound (tables_in (out-TableCell cell)) →
       AllByRecursion (λ block. IsSpeltBlock (out-Content block)) (out-TableCell cell).blocks →
-      CellNeeds highs (out-TableCell cell) w h →
+      CellNeeds highs lines (out-TableCell cell) w h →
       h + 2 ≤ 2 * cell_size cell
-  high-cell-small cell w h have spelt need =
-      cell-small highs w cell h spelt
+  high-cell-small lines cell w h have spelt need =
+      cell-small highs w lines cell h spelt
       (AllByRecursion-weaker HasSound (λ nested. (m : ℕ) → highs nested w m →
       m ≤ 2 * table_size nested) (tables_in (out-TableCell cell))
       (λ nested has m high. high-small nested w m has high) have) need

@@ -1,5 +1,5 @@
 -- What is needed from a width on, and falls, has steps; and so has what a cell needs where its nested tables do.
-use Rattle.std.proofs.Common.{◌≡◌, ℕ, zero, suc, ◌+◌, ◌-◌, ◌≤◌, inl, inr, max, List, [], ◌∷◌, ◌++◌, Contains, sum, refl}
+use Rattle.std.proofs.Common.{◌≡◌, ℕ, zero, suc, ◌+◌, ◌-◌, ◌<◌, ◌≤◌, inl, inr, max, List, [], ◌∷◌, ◌++◌, Contains, sum, refl}
 use Rattle.std.proofs.Common.{ap, subst, ◌∙◌, arith}
 use Rattle.std.specs.List.{AllByRecursion}
 use Rattle.std.proofs.lemmas.Bool.{cases_lt}
@@ -35,25 +35,85 @@ module _ (needs : ℕ → ℕ → Type 0) (start : ℕ) (begins : IsStart needs 
     wider = λ v w m wider within first. begins.has w (omega (arith, begins.from v m first, wider));
   }
 
-  first-steps : (steps : List Config) × AreStepsOf needs start steps
-  first-steps =
-      let here = begins.has start (omega arith) in
-      let first : Config = record { width = start; height = here.0 } in (
-        first ∷ [],
-        AreStepsOf-from needs start (first ∷ [])
-            (record { has_step = omega arith; decreasing = λ i j d before within. absurd (omega arith) }) (decreasing start)
-            (λ step has. elim (Contains-push_cases [] first step has) [
-              | inl none ↦ absurd (Contains-none step none)
-              | inr is ↦ subst (λ (one : Config). (one.width ≤ start) × needs one.width one.height) is (omega arith, here.1)
-            ])
-            (λ w n within need.
-            let low = begins.from w n need in
-            let same : w ≡ start = omega (arith, low, within) in
-            let at = subst (λ v. needs v n) same need in
-            let one = falls start start here.0 n (omega arith) here.1 at in
-            let other = falls start start n here.0 (omega arith) at here.1 in
-            (first, Contains-push [] first, omega (arith, same), omega (arith, one, other))),
-      )
+  -- at its least width the height is one step
+  pub first-steps : (h : ℕ) → needs start h → AreStepsOf needs start (record { width = start; height = h } ∷ [])
+  first-steps h here =
+      let first : Config = record { width = start; height = h } in
+      AreStepsOf-from needs start (first ∷ [])
+      (record { has_step = omega arith; decreasing = λ i j d before within. absurd (omega arith) }) (decreasing start)
+      (λ step has. elim (Contains-push_cases [] first step has) [
+        | inl none ↦ absurd (Contains-none step none)
+        | inr is ↦ subst (λ (one : Config). (one.width ≤ start) × needs one.width one.height) is (omega arith, here)
+      ])
+      (λ w n within need.
+      let low = begins.from w n need in
+      let same : w ≡ start = omega (arith, low, within) in
+      let at = subst (λ v. needs v n) same need in
+      let one = falls start start h n (omega arith) here at in
+      let other = falls start start n h (omega arith) at here in
+      (first, Contains-push [] first, omega (arith, same), omega (arith, one, other)))
+
+  module _ (page m n : ℕ) (here : needs page m) (next : needs (suc page) n) (steps : List Config) (of : AreStepsOf needs page steps)
+    where
+      step-before : (step : Config) → Contains steps step → (step.width ≤ page) × (m ≤ step.height) × needs step.width step.height
+      step-before step has =
+          let narrow = All-contains (λ (one : Config). one.width ≤ page) steps step of.within has in
+          let need = (of.each step.width step.height narrow).0 (height-own steps of.decreasing step has) in
+          (narrow, falls step.width page step.height m narrow need here, need)
+
+      -- where the next height is lower it is one step more
+      pub next-lower : n < m → AreStepsOf needs (suc page) (steps ++ record { width = suc page; height = n } ∷ [])
+      next-lower lower =
+          AreStepsOf-from needs (suc page) (steps ++ last ∷ [])
+          (record {
+            has_step = omega (arith, length_push steps last);
+            decreasing = AllPairs-append Falls steps (last ∷ []) of.decreasing.decreasing
+                (AllPairs-cons Falls last [] (λ k d none. absurd (omega (arith, none))) (AllPairs-none Falls))
+                (λ one other first second. elim (Contains-push_cases [] last other second) [
+                  | inl none ↦ absurd (Contains-none other none)
+                  | inr is ↦
+                      let before = step-before one first in
+                      subst (λ (step : Config). Falls one step) is
+                      (omega (arith, before.0), omega (arith, before.1, lower))
+                ]);
+          })
+          (decreasing (suc page))
+          (λ step has. elim (Contains-push_cases steps last step has) [
+            | inl old ↦ let before = step-before step old in (omega (arith, before.0), before.2)
+            | inr is ↦ subst (λ (one : Config). (one.width ≤ suc page) × needs one.width one.height) is
+                (omega arith, next)
+          ])
+          (λ w k narrow need. elim (cases_lt w (suc page)) [
+            | inl old ↦
+                let at = step-at steps w k ((of.each w k (omega (arith, old))).1 need) in
+                (at.0, Contains-append_left steps (last ∷ []) at.0 at.1, at.2, at.3)
+            | inr new ↦
+                let same : w ≡ suc page = omega (arith, narrow, new) in
+                let at = subst (λ v. needs v k) same need in
+                let one = falls (suc page) (suc page) n k (omega arith) next at in
+                let other = falls (suc page) (suc page) k n (omega arith) at next in
+                (last, Contains-push steps last, omega (arith, same), omega (arith, one, other))
+          ])
+        where
+          last : Config
+          last = record { width = suc page; height = n }
+
+      -- and where it is not they stay
+      pub next-flat : m ≤ n → AreStepsOf needs (suc page) steps
+      next-flat flat =
+          AreStepsOf-from needs (suc page) steps of.decreasing (decreasing (suc page))
+          (λ step has. let before = step-before step has in (omega (arith, before.0), before.2))
+          (λ w k narrow need. elim (cases_lt w (suc page)) [
+            | inl old ↦ step-at steps w k ((of.each w k (omega (arith, old))).1 need)
+            | inr new ↦
+                let same : w ≡ suc page = omega (arith, narrow, new) in
+                let at = subst (λ v. needs v k) same need in
+                let one = falls (suc page) (suc page) n k (omega arith) next at in
+                let other = falls (suc page) (suc page) k n (omega arith) at next in
+                let fall = falls page (suc page) m n (omega arith) here next in
+                let found = step-at steps page m ((of.each page m (omega arith)).1 here) in
+                (found.0, found.1, omega (arith, found.2, same), omega (arith, found.3, one, other, fall, flat))
+          ])
 
   -- the steps up to the next width
   next-steps : (page : ℕ) → start ≤ page → (steps : List Config) → AreStepsOf needs page steps →
@@ -62,68 +122,19 @@ module _ (needs : ℕ → ℕ → Type 0) (start : ℕ) (begins : IsStart needs 
       let here = begins.has page within in
       let next = begins.has (suc page) (omega (arith, within)) in
       elim (cases_lt next.0 here.0) [
-        | inl lower ↦
-            let last : Config = record { width = suc page; height = next.0 } in (
-              steps ++ last ∷ [],
-              AreStepsOf-from needs (suc page) (steps ++ last ∷ [])
-                  (record {
-                    has_step = omega (arith, length_push steps last);
-                    decreasing = AllPairs-append Falls steps (last ∷ []) of.decreasing.decreasing
-                        (AllPairs-cons Falls last [] (λ k d none. absurd (omega (arith, none))) (AllPairs-none Falls))
-                        (λ one other first second. elim (Contains-push_cases [] last other second) [
-                          | inl none ↦ absurd (Contains-none other none)
-                          | inr is ↦
-                              let before = step-before one first in
-                              subst (λ (step : Config). Falls one step) is
-                              (omega (arith, before.0), omega (arith, before.1, lower))
-                        ]);
-                  })
-                  (decreasing (suc page))
-                  (λ step has. elim (Contains-push_cases steps last step has) [
-                    | inl old ↦ let before = step-before step old in (omega (arith, before.0), before.2)
-                    | inr is ↦ subst (λ (one : Config). (one.width ≤ suc page) × needs one.width one.height) is
-                        (omega arith, next.1)
-                  ])
-                  (λ w n narrow need. elim (cases_lt w (suc page)) [
-                    | inl old ↦
-                        let at = step-at steps w n ((of.each w n (omega (arith, old))).1 need) in
-                        (at.0, Contains-append_left steps (last ∷ []) at.0 at.1, at.2, at.3)
-                    | inr new ↦
-                        let same : w ≡ suc page = omega (arith, narrow, new) in
-                        let at = subst (λ v. needs v n) same need in
-                        let one = falls (suc page) (suc page) next.0 n (omega arith) next.1 at in
-                        let other = falls (suc page) (suc page) n next.0 (omega arith) at next.1 in
-                        (last, Contains-push steps last, omega (arith, same), omega (arith, one, other))
-                  ]),
-            )
-        | inr flat ↦ (
-          steps,
-          AreStepsOf-from needs (suc page) steps of.decreasing (decreasing (suc page))
-              (λ step has. let before = step-before step has in (omega (arith, before.0), before.2))
-              (λ w n narrow need. elim (cases_lt w (suc page)) [
-                | inl old ↦ step-at steps w n ((of.each w n (omega (arith, old))).1 need)
-                | inr new ↦
-                    let same : w ≡ suc page = omega (arith, narrow, new) in
-                    let at = subst (λ v. needs v n) same need in
-                    let one = falls (suc page) (suc page) next.0 n (omega arith) next.1 at in
-                    let other = falls (suc page) (suc page) n next.0 (omega arith) at next.1 in
-                    let fall = falls page (suc page) here.0 next.0 (omega arith) here.1 next.1 in
-                    let found = step-at steps page here.0 ((of.each page here.0 (omega arith)).1 here.1) in
-                    (found.0, found.1, omega (arith, found.2, same), omega (arith, found.3, one, other, fall, flat))
-              ]),
+        | inl lower ↦ (
+          steps ++ record { width = suc page; height = next.0 } ∷ [],
+          next-lower page here.0 next.0 here.1 next.1 steps of lower,
         )
+        | inr flat ↦ (steps, next-flat page here.0 next.0 here.1 next.1 steps of flat)
       ]
-    where
-      step-before : (step : Config) → Contains steps step → (step.width ≤ page) × ((begins.has page within).0 ≤ step.height) ×
-          needs step.width step.height
-      step-before step has =
-          let narrow = All-contains (λ (one : Config). one.width ≤ page) steps step of.within has in
-          let need = (of.each step.width step.height narrow).0 (height-own steps of.decreasing step has) in
-          (narrow, falls step.width page step.height (begins.has page within).0 narrow need (begins.has page within).1, need)
 
   steps-after : (n : ℕ) → (steps : List Config) × AreStepsOf needs (start + n) steps
-  steps-after zero = let same : start ≡ start + 0 = omega arith in
-      (first-steps.0, subst (λ page. AreStepsOf needs page first-steps.0) same first-steps.1)
+  steps-after zero =
+      let same : start ≡ start + 0 = omega arith in
+      let here = begins.has start (omega arith) in
+      let first = record { width = start; height = here.0 } ∷ [] in
+      (first, subst (λ page. AreStepsOf needs page first) same (first-steps here.0 here.1))
   steps-after (suc n) =
       let before = steps-after n in
       let more = next-steps (start + n) (omega arith) before.0 before.1 in
@@ -219,30 +230,32 @@ module _ (needs : Table → ℕ → ℕ → Type 0) where
         every,
       )
 
-  pub cell-begins : (cell : OpenCell) → AllByRecursion (HasStart needs) (tables_in cell) →
-      (start : ℕ) × IsStart (CellNeeds needs cell) start
-  cell-begins cell have =
+  pub cell-begins : (inside : ℕ) (cell : OpenCell) → AllByRecursion (HasStart needs) (tables_in cell) →
+      (start : ℕ) × IsStart (CellNeeds needs inside cell) start
+  cell-begins inside cell have =
       let all = blocks-start cell.least cell.blocks (each_joined (HasStart needs) (λ block. tables_of (out-Content block))
       cell.blocks have) in (
         all.0,
         record {
-          from = λ w h need. all.1.from w h (need.floor, cell-blocks needs cell w h need);
-          has = λ w wide. let some = all.1.has w wide in (some.0, blocks-cell needs cell w some.0 some.1.0 some.1.1);
+          from = λ w h need. let blocks = cell-blocks needs inside cell w h need in all.1.from w blocks.0 (need.floor, blocks.1);
+          has = λ w wide. let some = all.1.has w wide in (some.0 - inside, blocks-cell needs inside cell w some.0 some.1.0 some.1.1);
         },
       )
 
-  pub cell-falls : (cell : OpenCell) → AllByRecursion (HasStart needs) (tables_in cell) → (v w m n : ℕ) → v ≤ w →
-      CellNeeds needs cell v m →
-      CellNeeds needs cell w n → n ≤ m
-  cell-falls cell have v w m n wider first second =
-      blocks-fall cell.blocks (each_joined (HasStart needs) (λ block. tables_of (out-Content block)) cell.blocks have)
-      v w m n wider
-      (cell-blocks needs cell v m first) (cell-blocks needs cell w n second)
+  pub cell-falls : (inside : ℕ) (cell : OpenCell) → AllByRecursion (HasStart needs) (tables_in cell) → (v w m n : ℕ) → v ≤ w →
+      CellNeeds needs inside cell v m →
+      CellNeeds needs inside cell w n → n ≤ m
+  cell-falls inside cell have v w m n wider first second =
+      let high = cell-blocks needs inside cell v m first in
+      let low = cell-blocks needs inside cell w n second in
+      let fall = blocks-fall cell.blocks (each_joined (HasStart needs) (λ block. tables_of (out-Content block)) cell.blocks have)
+      v w high.0 low.0 wider high.1 low.1 in
+      omega (arith, fall, high.2, low.2)
 
   -- a cell that begins within the page has steps
-  pub cell-steps : (cell : OpenCell) (have : AllByRecursion (HasStart needs) (tables_in cell)) (page : ℕ) →
-      (cell-begins cell have).0 ≤ page →
-      (steps : List Config) × AreStepsOf (CellNeeds needs cell) page steps
-  cell-steps cell have page within =
-      let begin = cell-begins cell have in
-      steps-exist (CellNeeds needs cell) begin.0 begin.1 (cell-falls cell have) page within
+  pub cell-steps : (inside : ℕ) (cell : OpenCell) (have : AllByRecursion (HasStart needs) (tables_in cell)) (page : ℕ) →
+      (cell-begins inside cell have).0 ≤ page →
+      (steps : List Config) × AreStepsOf (CellNeeds needs inside cell) page steps
+  cell-steps inside cell have page within =
+      let begin = cell-begins inside cell have in
+      steps-exist (CellNeeds needs inside cell) begin.0 begin.1 (cell-falls inside cell have) page within

@@ -1,8 +1,8 @@
--- The problem of a table: what a search sees of it. Each cell needs at a width as many lines as its blocks need there, one
--- under the other; it begins at its floor, or where each of its blocks has a height. What a nested table needs is given
--- from outside: as a lower bound and an upper one of each, or as it is, which gives the true problem.
-use Rattle.tl_base.specs.Style.{spacing_of}
-use Rattle.std.specs.Prelude.{◌≡◌, ℕ, ◌≤◌, ◌↔◌, ◌==◌, if◌then◌else◌, List, [], ◌∷◌, Option, None, Some, IsSomeAnd, sum}
+-- The problem of a table: what a search sees of it. Each cell needs at a width as many lines of its rows as its blocks need there,
+-- one under the other, less the lines between its rows, which it has beside them; it begins at its floor, or where each of its
+-- blocks has a height. What a nested table needs is given from outside: as a lower bound and an upper one of each, or as it is,
+-- which gives the true problem.
+use Rattle.std.specs.Prelude.{◌≡◌, ℕ, ◌-◌, ◌≤◌, ◌↔◌, ◌==◌, if◌then◌else◌, List, [], ◌∷◌, Option, None, Some, IsSomeAnd, sum}
 use Rattle.std.specs.List.{All, AllZip}
 use Rattle.tl_base.specs.declared.style.Style.{Style}
 use Rattle.tl_base.specs.declared.steps.Config.{Config}
@@ -15,9 +15,10 @@ use Rattle.tl_text.specs.Cuttings.{LeastLines}
 use Rattle.tl_table.specs.declared.cell.Content.{out-Content}
 use Rattle.tl_table.specs.declared.cell.Content.TheOpen as open_content
 use Rattle.tl_table.specs.declared.cell.Table.{Table, out-Table}
-use Rattle.tl_table.specs.declared.cell.TableCell.{out-TableCell}
+use Rattle.tl_table.specs.declared.cell.TableCell.{TableCell, out-TableCell}
 use Rattle.tl_form.specs.declared.heights.InnerSteps.{InnerSteps}
-use Rattle.tl_table.specs.Tables.{OpenTable, OpenCell, OpenContent, IsAmong}
+use Rattle.tl_table.specs.Tables.{OpenTable, OpenCell, OpenContent, IsAmong, place_of}
+use Rattle.tl_table.specs.Layouts.{lines_inside, spacing_in}
 use Rattle.tl_table.specs.Least.{IsLeastHeight}
 
 -- ---- what a cell needs
@@ -28,12 +29,13 @@ abbrev pub BlockNeeds : (Table → ℕ → ℕ → Type 0) → OpenContent → �
 BlockNeeds needs (open_content.Para paragraph) w h = LeastLines w paragraph h
 BlockNeeds needs (open_content.Table box) w h = needs box.value w h
 
--- a cell needs `h` lines in `w` columns, no fewer than its floor: the sum of what its blocks need there
-pub record CellNeeds (needs : Table → ℕ → ℕ → Type 0) (cell : OpenCell) (w h : ℕ) : Type 0 where
+-- a cell with `inside` lines inside its place needs `h` lines of its rows in `w` columns, no fewer than its floor: the sum of
+-- what its blocks need there, less the lines inside, and none where those are enough
+pub record CellNeeds (needs : Table → ℕ → ℕ → Type 0) (inside : ℕ) (cell : OpenCell) (w h : ℕ) : Type 0 where
   pub floor : cell.least ≤ w
   pub heights : List ℕ
   pub blocks : AllZip (λ block height. BlockNeeds needs (out-Content block) w height) cell.blocks heights
-  pub all : sum heights ≡ h
+  pub all : sum heights - inside ≡ h
 
 -- ---- needs as steps
 
@@ -46,24 +48,29 @@ pub record AreStepsOf (needs : ℕ → ℕ → Type 0) (page : ℕ) (steps : Lis
 
 -- ---- the problem
 
--- the cell of a problem is that of a table: it lies where that does, and has the steps of what it needs, by what `lows`
--- and `highs` say of nested tables
-pub record IsCellBy (lows highs : Table → ℕ → ℕ → Type 0) (page : ℕ) (cell : OpenCell) (made : Cell) : Type 0 where
+-- the cell of a problem is that of a table: it lies where that does, and has the steps of what it needs with `inside` lines
+-- inside its place, by what `lows` and `highs` say of nested tables
+pub record IsCellBy (lows highs : Table → ℕ → ℕ → Type 0) (page inside : ℕ) (cell : OpenCell) (made : Cell) : Type 0 where
   pub left : made.left ≡ cell.place.left
   pub right : made.right ≡ cell.place.right
   pub top : made.top ≡ cell.place.top
   pub bottom : made.bottom ≡ cell.place.bottom
-  pub low : AreStepsOf (CellNeeds lows cell) page made.low
-  pub high : AreStepsOf (CellNeeds highs cell) page made.high
+  pub low : AreStepsOf (CellNeeds lows inside cell) page made.low
+  pub high : AreStepsOf (CellNeeds highs inside cell) page made.high
+
+-- how many lines of a table lie inside the place of this cell, beside those of its rows
+abbrev pub inside_of : Style → OpenTable → TableCell → ℕ
+inside_of style table cell = lines_inside style table (place_of cell)
 
 -- the problem of a table on a page of `page` columns
 pub record IsProblemBy (lows highs : Table → ℕ → ℕ → Type 0) (style : Style) (page : ℕ) (table : OpenTable)
     (problem : ProblemModel) : Type 0 where
   pub columns : problem.cols ≡ table.cols
   pub lines : problem.rows ≡ table.rows
-  pub spaced : problem.spacing ≡ spacing_of style
+  pub spaced : problem.spacing ≡ spacing_in style table
   pub wide : problem.width ≡ page
-  pub made : AllZip (λ cell made. IsCellBy lows highs page (out-TableCell cell) made) table.cells problem.cells
+  pub made : AllZip (λ cell made. IsCellBy lows highs page (inside_of style table cell) (out-TableCell cell) made)
+      table.cells problem.cells
 
 -- ---- from bounds of nested tables
 

@@ -1,7 +1,7 @@
 //! The heights that a cell needs at each width, as steps: its blocks one under the other, all from the
-//! least width of the cell on.
+//! least width of the cell on, less the lines that lie inside its place.
 
-ghost use Rattle.std.specs.Prelude.{◌≡◌, ◌+◌, ◌≤◌, ◌↔◌, ℕ, Some, IfOk, IsTrue, MatchOption};
+ghost use Rattle.std.specs.Prelude.{◌≡◌, ◌+◌, ◌<◌, ◌≤◌, ◌^◌, ◌↔◌, ℕ, Some, IfOk, IsTrue, MatchOption};
 ghost use Rattle.std.specs.List.{All};
 ghost use Rattle.tl_base.specs.Steps.{AreSteps, first_height, height_at, stacked_height};
 ghost use Rattle.tl_table.specs.declared.cell.Content.{out-Content};
@@ -12,6 +12,8 @@ ghost use Rattle.tl_form.specs.declared.heights.Bound.TheVariants.{Low, High};
 ghost use Rattle.tl_form.specs.inner.CellSteps.{From, HaveSteps, IsLowCell, IsPlainBlock, IsStart, NeedsBy};
 
 use crate::heights::{Bound, InnerSteps, bound_for, start_of};
+use crate::lowered::lowered;
+use crate::tall::tall_stack;
 use std::alloc::{AllocError, Global};
 use tl_base::{Config, List, MAX_HEIGHT, MAX_PAGE_WIDTH, Steps};
 use tl_table::{Content, TableCell};
@@ -28,10 +30,10 @@ fn block_start(block: &Content, inner: &[InnerSteps], bound: Bound) -> u32
     }
 }
 
-/// The least width at which the cell has a height.
+/// The least width at which the cell has a height, however many lines lie inside it.
 pub fn cell_start(cell: &TableCell, inner: &[InnerSteps], bound: Bound) -> u32
     requires { HaveSteps inner.now (tables_in (out-TableCell cell.now)) }
-    ensures { IsStart (CellNeeds (NeedsBy bound inner.now) (out-TableCell cell.now)) result }
+    ensures { (lines : ℕ) → IsStart (CellNeeds (NeedsBy bound inner.now) lines (out-TableCell cell.now)) result }
 {
     let mut start = cell.least;
     for block in cell.blocks.as_slice() {
@@ -102,11 +104,12 @@ fn flat(alloc: Global, from: u32, page: u32) -> Result<Steps, AllocError>
     Ok(Steps::from_list(list))
 }
 
-/// Whether two things one above the other need no more lines than the limit.
-fn are_low(above: &Steps, below: &Steps) -> bool
-    ensures { IsTrue result ↔ (first_height above.now + first_height below.now ≤ MAX_HEIGHT) }
+/// Whether two things one above the other need no more lines than the limit and `lines` together.
+fn are_low(above: &Steps, below: &Steps, lines: u32) -> bool
+    ensures { IsTrue result ↔ (first_height above.now + first_height below.now ≤ MAX_HEIGHT + lines) }
 {
-    u64::from(above.max_height()) + u64::from(below.max_height()) <= u64::from(MAX_HEIGHT)
+    let height = u64::from(above.max_height()) + u64::from(below.max_height());
+    height <= u64::from(MAX_HEIGHT) + u64::from(lines)
 }
 
 /// Whether the steps need no line at any width.
@@ -117,33 +120,42 @@ fn need_no_line(steps: &Steps) -> bool
     steps.configs()[0].height == 0
 }
 
-/// The steps of two things one above the other. Where the one above needs no line they are those below.
-fn stacked(alloc: Global, above: &Steps, below: Steps) -> Result<Steps, AllocError>
-    requires { first_height above.now + first_height below ≤ MAX_HEIGHT }
+/// The steps of two things one above the other, which have none past `page`. Where the one above needs no
+/// line they are those below.
+fn stacked(alloc: Global, above: &Steps, below: Steps, page: u32) -> Result<Steps, AllocError>
+    requires small { first_height above.now + first_height below < 2 ^ 32 }
+    requires above { All (λ step. step.width ≤ page) above.now }
+    requires below { All (λ step. step.width ≤ page) below }
+    requires narrow { page ≤ MAX_PAGE_WIDTH }
     ensures decreasing { IfOk result AreSteps }
     ensures heights { IfOk result (λ steps. (w : ℕ) → height_at steps w ≡ stacked_height above.now below w) }
 {
     if need_no_line(above) && above.least() <= below.least() {
         return Ok(below);
     }
+    if !are_low(above, &below, 0) {
+        return tall_stack(alloc, above, &below, page);
+    }
     let steps = Steps::stack(alloc, above, &below)?;
     Ok(steps)
 }
 
-/// The steps of the cell on a page of `page` columns. `None` exactly where it has no height there, or one
-/// above the limit.
+/// The steps of the cell on a page of `page` columns, with `lines` lines inside its place. `None` exactly
+/// where it has no height there, or one above the limit.
 pub fn cell_steps(
     alloc: Global,
     cell: &TableCell,
+    lines: u32,
     page: u32,
     inner: &[InnerSteps],
     bound: Bound,
 ) -> Result<Option<Steps>, AllocError>
     requires steps { HaveSteps inner.now (tables_in (out-TableCell cell.now)) }
+    requires few { lines ≤ MAX_HEIGHT }
     requires narrow { page ≤ MAX_PAGE_WIDTH }
     ensures { IfOk result (λ found. MatchOption found
-        (IsLowCell (NeedsBy bound inner.now) page (out-TableCell cell.now) → ⊥)
-        (AreStepsOf (CellNeeds (NeedsBy bound inner.now) (out-TableCell cell.now)) page)) }
+        (IsLowCell (NeedsBy bound inner.now) page lines (out-TableCell cell.now) → ⊥)
+        (AreStepsOf (CellNeeds (NeedsBy bound inner.now) lines (out-TableCell cell.now)) page)) }
 {
     let start = cell_start(cell, inner, bound);
     if page < start {
@@ -152,12 +164,13 @@ pub fn cell_steps(
     let mut steps = flat(alloc, start, page)?;
     for block in cell.blocks.as_slice() {
         let below = block_steps(alloc, block, start, page, inner, bound)?;
-        if !are_low(&steps, &below) {
+        if !are_low(&steps, &below, lines) {
             return Ok(None);
         }
-        steps = stacked(alloc, &steps, below)?;
+        steps = stacked(alloc, &steps, below, page)?;
     }
-    Ok(Some(steps))
+    let low = lowered(alloc, steps, lines)?;
+    Ok(Some(low))
 }
 
 /// Whether the block is a paragraph.
@@ -179,19 +192,21 @@ fn is_plain(cell: &TableCell) -> bool
 pub fn high_steps(
     alloc: Global,
     cell: &TableCell,
+    lines: u32,
     page: u32,
     inner: &[InnerSteps],
     low: &Steps,
 ) -> Result<Option<Steps>, AllocError>
     requires steps { HaveSteps inner.now (tables_in (out-TableCell cell.now)) }
-    requires low { AreStepsOf (CellNeeds (NeedsBy Low inner.now) (out-TableCell cell.now)) page low.now }
+    requires low { AreStepsOf (CellNeeds (NeedsBy Low inner.now) lines (out-TableCell cell.now)) page low.now }
+    requires few { lines ≤ MAX_HEIGHT }
     requires narrow { page ≤ MAX_PAGE_WIDTH }
     ensures { IfOk result (λ found. MatchOption found
-        (IsLowCell (NeedsBy High inner.now) page (out-TableCell cell.now) → ⊥)
-        (AreStepsOf (CellNeeds (NeedsBy High inner.now) (out-TableCell cell.now)) page)) }
+        (IsLowCell (NeedsBy High inner.now) page lines (out-TableCell cell.now) → ⊥)
+        (AreStepsOf (CellNeeds (NeedsBy High inner.now) lines (out-TableCell cell.now)) page)) }
 {
     if !is_plain(cell) {
-        return cell_steps(alloc, cell, page, inner, Bound::High);
+        return cell_steps(alloc, cell, lines, page, inner, Bound::High);
     }
     let same = List::from_slice(alloc, low.configs())?;
     Ok(Some(Steps::from_list(same)))

@@ -11,12 +11,14 @@ mod due_laws;
 mod heights;
 mod laid;
 mod length_laws;
+mod lowered;
 mod named;
 mod nested_steps;
 mod open_laws;
 mod problem_laws;
 mod problems;
 mod subject;
+mod tall;
 mod valid_laws;
 
 pub use chain_laws::chains_are_writable;

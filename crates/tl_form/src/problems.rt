@@ -1,11 +1,12 @@
 //! The problem of a table: its grid, and the heights that its cells need at each width.
 
-ghost use Rattle.std.specs.Prelude.{◌≤◌, ◌↔◌, IfOk, IsTrue, MatchOption};
+ghost use Rattle.std.specs.Prelude.{◌≡◌, ◌≤◌, ◌↔◌, IfOk, IsTrue, MatchOption};
 ghost use Rattle.std.specs.List.{AllZip};
 ghost use Rattle.tl_table.specs.declared.cell.Table.{out-Table};
 ghost use Rattle.tl_table.specs.declared.cell.TableCell.{out-TableCell};
 ghost use Rattle.tl_problem.specs.Sound.{IsSound};
-ghost use Rattle.tl_form.specs.Problems.{HasSoundProblem, IsCellBy, IsProblemOf};
+ghost use Rattle.tl_form.specs.Problems.{HasSoundProblem, IsCellBy, IsProblemOf, inside_of};
+ghost use Rattle.tl_table.specs.Sound.{IsSound as IsSoundTable};
 ghost use Rattle.tl_table.specs.Tables.{inner_tables, tables_in};
 ghost use Rattle.tl_form.specs.inner.CellSteps.{AreLowCells, HaveSteps, IsLowByBoth, NeedsBy};
 ghost use Rattle.tl_form.specs.declared.heights.Bound.TheVariants.{Low, High};
@@ -13,27 +14,29 @@ ghost use Rattle.tl_form.specs.declared.heights.Bound.TheVariants.{Low, High};
 use crate::cell_steps::{cell_steps, high_steps};
 use crate::heights::{Bound, InnerSteps, have_steps};
 use std::alloc::{AllocError, Global};
-use tl_base::{List, MAX_PAGE_WIDTH, Style};
+use tl_base::{List, MAX_HEIGHT, MAX_PAGE_WIDTH, Style};
 use tl_problem::{Cell, Problem};
-use tl_table::{Table, TableCell};
+use tl_table::{Table, TableCell, head_end, lines_inside, spacing};
 
-/// The cell of the problem: the place of this one, and what it needs by both bounds. `None` exactly where it
-/// has no height on the page by one of them, or one above the limit.
+/// The cell of the problem: the place of this one, and what it needs by both bounds, with `lines` lines
+/// inside the place. `None` exactly where it has no height on the page by one of them, or one above the limit.
 fn problem_cell(
     alloc: Global,
     cell: &TableCell,
+    lines: u32,
     page: u32,
     inner: &[InnerSteps],
 ) -> Result<Option<Cell>, AllocError>
     requires steps { HaveSteps inner.now (tables_in (out-TableCell cell.now)) }
+    requires few { lines ≤ MAX_HEIGHT }
     requires narrow { page ≤ MAX_PAGE_WIDTH }
-    ensures { IfOk result (λ found. MatchOption found (IsLowByBoth inner.now page (out-TableCell cell.now) → ⊥)
-        (IsCellBy (NeedsBy Low inner.now) (NeedsBy High inner.now) page (out-TableCell cell.now))) }
+    ensures { IfOk result (λ found. MatchOption found (IsLowByBoth inner.now page lines (out-TableCell cell.now) → ⊥)
+        (IsCellBy (NeedsBy Low inner.now) (NeedsBy High inner.now) page lines (out-TableCell cell.now))) }
 {
-    let Some(low) = cell_steps(alloc, cell, page, inner, Bound::Low)? else {
+    let Some(low) = cell_steps(alloc, cell, lines, page, inner, Bound::Low)? else {
         return Ok(None);
     };
-    let Some(high) = high_steps(alloc, cell, page, inner, &low)? else {
+    let Some(high) = high_steps(alloc, cell, lines, page, inner, &low)? else {
         return Ok(None);
     };
     let place = cell.place;
@@ -52,18 +55,23 @@ fn problem_cell(
 fn problem_cells(
     alloc: Global,
     table: &Table,
+    style: Style,
     page: u32,
     inner: &[InnerSteps],
 ) -> Result<Option<List<Cell>>, AllocError>
+    requires sound { IsSoundTable table.now }
     requires steps { HaveSteps inner.now (inner_tables (out-Table table.now)) }
     requires narrow { page ≤ MAX_PAGE_WIDTH }
-    ensures { IfOk result (λ found. MatchOption found (AreLowCells inner.now page (out-Table table.now).cells → ⊥)
+    ensures { IfOk result (λ found. MatchOption found
+        (AreLowCells inner.now page (inside_of style (out-Table table.now)) (out-Table table.now).cells → ⊥)
         (AllZip (λ cell made. IsCellBy (NeedsBy Low inner.now) (NeedsBy High inner.now) page
-        (out-TableCell cell) made) (out-Table table.now).cells)) }
+        (inside_of style (out-Table table.now) cell) (out-TableCell cell) made) (out-Table table.now).cells)) }
 {
+    let end = head_end(table);
     let mut cells = Vec::with_capacity(alloc, table.cells.len())?;
     for cell in table.cells.as_slice() {
-        let Some(made) = problem_cell(alloc, cell, page, inner)? else {
+        let lines = lines_inside(cell.place, style, end);
+        let Some(made) = problem_cell(alloc, cell, lines, page, inner)? else {
             return Ok(None);
         };
         cells.push(made)?;
@@ -72,9 +80,10 @@ fn problem_cells(
 }
 
 /// The problem of the table on a page of `width` columns, with these heights for the tables nested
-/// directly in it. A cell needs at a width as many lines as its blocks need there, one under the
-/// other: a paragraph the least number of lines of its cuttings, a nested table what its steps say. It
-/// begins at its floor, or at the least width at which each of its blocks has a height.
+/// directly in it. A cell needs at a width as many lines of its rows as its blocks need there, one under
+/// the other, less the lines between its rows: a paragraph the least number of lines of its cuttings, a
+/// nested table what its steps say. It begins at its floor, or at the least width at which each of its
+/// blocks has a height.
 pub fn problem(
     alloc: Global,
     table: &Table,
@@ -82,7 +91,8 @@ pub fn problem(
     width: u32,
     inner: &[InnerSteps],
 ) -> Result<Problem, AllocError>
-    requires { HasSoundProblem table.now style width inner.now }
+    requires sound { IsSoundTable table.now }
+    requires problem { HasSoundProblem table.now style width inner.now }
     ensures { IfOk result (IsProblemOf table.now style width inner.now) }
 {
     Ok(sound_problem(alloc, table, style, width, inner)?.unwrap())
@@ -97,6 +107,7 @@ pub fn sound_problem(
     width: u32,
     inner: &[InnerSteps],
 ) -> Result<Option<Problem>, AllocError>
+    requires { IsSoundTable table.now }
     ensures { IfOk result (λ found. MatchOption found (HasSoundProblem table.now style width inner.now → ⊥)
         (λ problem. IsProblemOf table.now style width inner.now problem × IsSound problem)) }
 {
@@ -106,10 +117,10 @@ pub fn sound_problem(
     if !have_steps(table, inner) {
         return Ok(None);
     }
-    let Some(cells) = problem_cells(alloc, table, width, inner)? else {
+    let Some(cells) = problem_cells(alloc, table, style, width, inner)? else {
         return Ok(None);
     };
-    let spacing = style.spacing();
+    let spacing = spacing(table, style);
     if !Problem::is_sound(table.cols, table.rows, spacing, width, cells.as_slice()) {
         return Ok(None);
     }
@@ -126,6 +137,7 @@ pub fn has_sound_problem(
     width: u32,
     inner: &[InnerSteps],
 ) -> Result<bool, AllocError>
+    requires { IsSoundTable table.now }
     ensures { IfOk result (λ sound. IsTrue sound ↔ HasSoundProblem table.now style width inner.now) }
 {
     let problem = sound_problem(alloc, table, style, width, inner)?;

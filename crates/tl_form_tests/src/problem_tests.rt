@@ -1,5 +1,7 @@
 //! Problems of files' tables, with what their cells need counted by hand.
 
+ghost use Rattle.tl_table.specs.Sound.{IsSound};
+
 use crate::tests::table_of;
 use std::alloc::{AllocError, Global};
 use std::process::Abort;
@@ -51,7 +53,9 @@ fn shown_or_unsound(
     style: Style,
     width: u32,
     inner: &[InnerSteps],
-) -> Result<String, AllocError> {
+) -> Result<String, AllocError>
+    requires { IsSound table.now }
+{
     if !has_sound_problem(alloc, table, style, width, inner)? {
         let text = String::from_str(alloc, "unsound")?;
         return Ok(text);
@@ -202,6 +206,129 @@ fn spans_have_steps_of_their_own(rt: HostRuntime) -> Result<(), Fail> {
     let file = "<table><tr><td rowspan=2>aa bb cc<td>x<tr><td>y</table>";
     let wanted = "2x2 at 7, count 2: 0-1,0-2(2:3 5:2) 1-2,0-1(1:1) 1-2,1-2(1:1)";
     is_flat(&rt, rt.alloc(), file, 7, wanted)
+}
+
+/// The lines beside the rows in the problem of a file's table on a page of 9 columns.
+fn lines_beside(alloc: Global, file: &str, style: Style) -> Result<u32, Fail> {
+    let Ok(table) = table_of(alloc, file, Breaking::Words)? else {
+        return Err("no table".into());
+    };
+    if !has_sound_problem(alloc, &table, style, 9, &[])? {
+        return Err("unsound".into());
+    }
+    let problem = problem(alloc, &table, style, 9, &[])?;
+    Ok(problem.spacing().lines)
+}
+
+/// A header row above a plain one.
+const HEADED: &str = "<table><tr><th>h<tr><td>d</table>";
+
+//   h
+//   -    the one line beside the rows, in style rule alone
+//   d
+#[test]
+fn the_line_under_the_head_is_beside_the_rows(rt: HostRuntime) -> Result<(), Fail> {
+    let alloc = rt.alloc();
+    assert_eq!(rt; lines_beside(alloc, HEADED, Style::Rule)?, 1);
+    assert_eq!(rt; lines_beside(alloc, HEADED, Style::Compact)?, 0);
+    assert_eq!(rt; lines_beside(alloc, HEADED, Style::Frame)?, 2);
+    Ok(())
+}
+
+#[test]
+fn without_a_head_there_is_no_line_under_it(rt: HostRuntime) -> Result<(), Fail> {
+    let alloc = rt.alloc();
+    let plain = "<table><tr><td>h<tr><td>d</table>";
+    assert_eq!(rt; lines_beside(alloc, plain, Style::Rule)?, 0);
+    let all_header = "<table><tr><th>h<tr><th>d</table>";
+    assert_eq!(rt; lines_beside(alloc, all_header, Style::Rule)?, 0);
+    Ok(())
+}
+
+//   a
+//
+//   b    three rows that have an empty line between any two
+//
+//   c
+#[test]
+fn in_style_apart_a_line_lies_between_any_two_rows_below_the_head(
+    rt: HostRuntime,
+) -> Result<(), Fail> {
+    let alloc = rt.alloc();
+    let plain = "<table><tr><td>a<tr><td>b<tr><td>c</table>";
+    assert_eq!(rt; lines_beside(alloc, plain, Style::Apart)?, 2);
+    assert_eq!(rt; lines_beside(alloc, plain, Style::Rule)?, 0);
+    let headed = "<table><tr><th>h<tr><td>a<tr><td>b</table>";
+    assert_eq!(rt; lines_beside(alloc, headed, Style::Apart)?, 2);
+    assert_eq!(rt; lines_beside(alloc, HEADED, Style::Apart)?, 1);
+    let captioned = "<table><caption>t</caption><tr><td>a<tr><td>b<tr><td>c</table>";
+    assert_eq!(rt; lines_beside(alloc, captioned, Style::Apart)?, 2);
+    Ok(())
+}
+
+/// Compares the problem of a file's table in style apart on a page of 9 columns, by the steps of two tables
+/// nested in it, if it has any, with a text.
+fn is_apart(
+    rt: &impl Abort,
+    alloc: Global,
+    file: &str,
+    steps: (&str, &str),
+    wanted: &str,
+) -> Result<(), Fail> {
+    let mut inner = Vec::new(alloc);
+    push_bounds(alloc, &mut inner, 1, steps.0, steps.0)?;
+    push_bounds(alloc, &mut inner, 2, steps.1, steps.1)?;
+    let found = problem_of(alloc, file, Breaking::Words, Style::Apart, 9, &inner)?;
+    assert_eq!(rt; found.as_str(), wanted);
+    Ok(())
+}
+
+//   aa x
+//   bb      of its three lines the middle one lies between the rows
+//   cc y
+#[test]
+fn a_cell_over_rows_has_the_lines_between_them(rt: HostRuntime) -> Result<(), Fail> {
+    let alloc = rt.alloc();
+    let none = ("", "");
+    let file = "<table><tr><td rowspan=2>aa bb cc<td>x<tr><td>y</table>";
+    let wanted = "2x2 at 9, count 3: 0-1,0-2(2:2 5:1 8:0) 1-2,0-1(1:1) 1-2,1-2(1:1)";
+    is_apart(&rt, alloc, file, none, wanted)?;
+    let file = "<table><tr><td rowspan=2>a<td>x<tr><td>y</table>";
+    let wanted = "2x2 at 9, count 1: 0-1,0-2(1:0) 1-2,0-1(1:1) 1-2,1-2(1:1)";
+    is_apart(&rt, alloc, file, none, wanted)?;
+    let file = "<table><tr><td rowspan=3>aa bb cc<td>x<tr><td>y<tr><td>z</table>";
+    let wanted = "2x3 at 9, count 2: 0-1,0-3(2:1 5:0) 1-2,0-1(1:1) 1-2,1-2(1:1) 1-2,2-3(1:1)";
+    is_apart(&rt, alloc, file, none, wanted)
+}
+
+#[test]
+fn in_the_head_a_cell_over_rows_has_no_line_between_them(rt: HostRuntime) -> Result<(), Fail> {
+    let file =
+        "<table><tr><th rowspan=2>aa bb<th>x<tr><th>y<tr><td rowspan=2>a<td>c<tr><td>d</table>";
+    let wanted =
+        "2x4 at 9, count 2: 0-1,0-2(2:2 5:1) 1-2,0-1(1:1) 1-2,1-2(1:1) 0-1,2-4(1:0) 1-2,2-3(1:1) 1-2,3-4(1:1)";
+    is_apart(&rt, rt.alloc(), file, ("", ""), wanted)
+}
+
+// The lines between the rows do not count towards the limit of heights.
+#[test]
+fn a_cell_over_rows_is_as_high_as_the_limit_and_the_lines_between_them(
+    rt: HostRuntime,
+) -> Result<(), Fail> {
+    let alloc = rt.alloc();
+    let file =
+        "<table><tr><td rowspan=2><table><tr><td>a</table><table><tr><td>b</table><td><tr><td></table>";
+    let wanted = "2x2 at 9, count 1: 0-1,0-2(5:1073741824) 1-2,0-1(0:0) 1-2,1-2(0:0)";
+    is_apart(
+        &rt,
+        alloc,
+        file,
+        ("1:1073741824 5:1", "5:1073741824"),
+        wanted,
+    )?;
+    let wanted = "2x2 at 9, count 3: 0-1,0-2(5:1073741824 6:6 8:5) 1-2,0-1(0:0) 1-2,1-2(0:0)";
+    is_apart(&rt, alloc, file, ("5:1073741823 6:5", "5:2 8:1"), wanted)?;
+    is_apart(&rt, alloc, file, ("5:1073741824", "5:2"), "unsound")
 }
 
 #[test]

@@ -37,7 +37,7 @@ pub returns : goal.returns
 returns c =
     let needs = NeedsBy c.args.bound c.args.inner.now in
     let cell = out-TableCell c.args.cell.now in
-    start-all needs cell c.loop-block.start
+    λ lines. start-all needs lines cell c.loop-block.start
     (subst (λ blocks. StartSoFar needs cell.least blocks c.loop-block.start)
     (take_all c.loop-block.block-index cell.blocks
     (subst (λ items. length items ≤ c.loop-block.block-index) c.as_slice-block-items.ensures c.loop-block-test.false))

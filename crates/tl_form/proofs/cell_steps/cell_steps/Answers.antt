@@ -16,7 +16,7 @@ passed equal = cc
 
 pub returns-then-page-start : goal.returns-then-page-start
 returns-then-page-start c = λ low.
-    let within = c.cell_start-start.ensures.from c.args.page low.some.0 low.some.1 in
+    let within = (c.cell_start-start.ensures c.args.lines).from c.args.page low.some.0 low.some.1 in
     omega (arith, within, c.if-page-start.true)
 
 pub flat-requires : goal.flat-requires
@@ -40,9 +40,9 @@ block_steps-requires-clause-some c =
     let needs = NeedsBy c.args.bound c.args.inner.now in
     let cell = out-TableCell c.args.cell.now in
     let start = c.cell_start-start.result in
-    let whole = c.cell_start-start.ensures.has start (omega arith) in
-    block-at needs cell.blocks start whole.0 c.loop-block.block-index c.block-item.result
-    (cell-blocks needs cell start whole.0 whole.1)
+    let whole = (c.cell_start-start.ensures c.args.lines).has start (omega arith) in
+    let all = cell-blocks needs c.args.lines cell start whole.0 whole.1 in
+    block-at needs cell.blocks start all.0 c.loop-block.block-index c.block-item.result all.1
     (subst (λ items. c.loop-block.block-index < length items) c.as_slice-block-items.ensures c.loop-block-test.true)
     (subst (λ items. c.block-item.result ≡ get_or items c.loop-block.block-index c.block-item.result)
     c.as_slice-block-items.ensures c.block-item.is)
@@ -53,10 +53,10 @@ block_steps-requires-clause-within c = c.if-page-start.false
 pub returns-then-not-are_low : goal.returns-then-not-are_low
 returns-then-not-are_low c = λ low.
     let together = low-together (NeedsBy c.args.bound c.args.inner.now) (inner-functional (bound_of c.args.bound) c.args.inner.now)
-    (out-TableCell c.args.cell.now)
+    c.args.lines (out-TableCell c.args.cell.now)
     c.args.page c.cell_start-start.result c.loop-block.block-index c.block-item.result c.loop-block.steps c.in_ok-below.below
     low
-    c.cell_start-start.ensures
+    (c.cell_start-start.ensures c.args.lines)
     (subst (λ items. c.loop-block.block-index < length items) c.as_slice-block-items.ensures c.loop-block-test.true)
     (subst (λ items. c.block-item.result ≡ get_or items c.loop-block.block-index c.block-item.result)
     c.as_slice-block-items.ensures c.block-item.is)
@@ -82,8 +82,10 @@ pub returns : goal.returns
 returns c =
     let needs = NeedsBy c.args.bound c.args.inner.now in
     let cell = out-TableCell c.args.cell.now in
-    steps-all needs c.args.page cell c.cell_start-start.result c.loop-block.steps c.cell_start-start.ensures
+    steps-all needs c.args.page c.args.lines cell c.cell_start-start.result c.loop-block.steps c.in_ok-low.low
+    (c.cell_start-start.ensures c.args.lines)
     (subst (λ blocks. StepsSoFar needs c.cell_start-start.result c.args.page blocks c.loop-block.steps)
     (take_all c.loop-block.block-index cell.blocks
     (subst (λ items. length items ≤ c.loop-block.block-index) c.as_slice-block-items.ensures c.loop-block-test.false))
     c.loop-block.invariant)
+    c.in_ok-low.ensures

@@ -11,7 +11,7 @@ use Rattle.tl_form.proofs.cell_steps.high_steps.Goals as goal
 pub returns : goal.returns
 returns c =
     let cell = out-TableCell c.args.cell.now in
-    subst (AreStepsOf (CellNeeds (NeedsBy High c.args.inner.now) cell) c.args.page)
+    subst (AreStepsOf (CellNeeds (NeedsBy High c.args.inner.now) c.args.lines cell) c.args.page)
     (sym (c.from_list.ensures ∙ c.in_ok-same.ensures ∙ c.configs.ensures.configs))
-    (plain-steps (NeedsBy Low c.args.inner.now) (NeedsBy High c.args.inner.now) c.args.page cell c.args.low.now
+    (plain-steps (NeedsBy Low c.args.inner.now) (NeedsBy High c.args.inner.now) c.args.page c.args.lines cell c.args.low.now
     (recursion_from_All IsPlainBlock cell.blocks (c.is_plain.ensures.0 c.if-not-is_plain.false)) c.requires.low)

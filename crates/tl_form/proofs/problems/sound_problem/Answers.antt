@@ -1,9 +1,9 @@
 -- A table that has a sound problem passes each test.
 use Rattle.tl_base.specs.declared.spacing.Spacing.{Spacing}
-use Rattle.tl_base.specs.Style.{spacing_of}
 use Rattle.std.proofs.Common.{◌≡◌, ◌∙◌, true, false, sym, subst}
 use Rattle.tl_table.specs.declared.cell.Table.{out-Table}
 use Rattle.tl_problem.specs.Sound.{IsSound}
+use Rattle.tl_table.specs.Layouts.{spacing_in}
 use Rattle.tl_form.proofs.ProblemCells.{are-low, have-steps, made-sound}
 use Rattle.tl_form.proofs.problems.sound_problem.Goals as goal
 
@@ -31,7 +31,7 @@ returns-then-not-is_sound c = λ has.
     (subst (λ made. IsSound (record {
       cols = table.cols;
       rows = table.rows;
-      spacing = spacing_of c.args.style;
+      spacing = spacing_in c.args.style table;
       width = c.args.width;
       cells = made;
     }))

@@ -7,7 +7,7 @@ use Rattle.tl_verify.proofs.sections.placed_width.Goals as goal
 
 pub overflow_cast-result : goal.overflow_cast-result
 overflow_cast-result c =
-    let spacing = spacing-sound c.args.style in
+    let spacing = spacing-sound c.args.style 0 (omega arith) in
     let fits = total_fits c.gap.result c.edges.result c.as_slice.result.now (omega (arith, c.gap.ensures, spacing.near))
     (omega (arith, c.edges.ensures, spacing.narrow))
     (subst (λ widths. length widths ≤ MAX_COLUMNS) (sym c.as_slice.ensures) c.requires.few)
