@@ -1,0 +1,2 @@
+-- What private functions promise each other. No public clause cites this file.
+pub mod Padded
