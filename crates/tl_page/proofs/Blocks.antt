@@ -1,5 +1,5 @@
 -- A block that fits: a paragraph has a cutting, and a nested table the next layout.
-use Rattle.std.proofs.Common.{◌≡◌, ℕ, ◌+◌, ◌<◌, ◌≤◌, List, [], ◌∷◌, ◌++◌, length, drop, get_or, refl, sym, ◌∙◌, ap, subst, suc}
+use Rattle.std.proofs.Common.{◌≡◌, ℕ, ◌+◌, ◌<◌, ◌≤◌, List, [], ◌∷◌, ◌++◌, length, drop, get_or, map, refl, sym, ◌∙◌, ap, subst, suc}
 use Rattle.std.proofs.Common.{arith}
 use Rattle.std.proofs.lemmas.List.{get_or-drop, drop_more, length-drop}
 use Rattle.std.specs.declared.alloc.Global.{Global}
@@ -7,6 +7,7 @@ use Rattle.std.specs.declared.boxed.Box.{Box}
 use Rattle.tl_base.specs.declared.style.Style.{Style}
 use Rattle.tl_base.specs.Style.{row_gap_of}
 use Rattle.tl_base.proofs.SizeLaws.{spacing-sound}
+use Rattle.tl_sides.specs.declared.side.Side.{Side}
 use Rattle.tl_text.specs.declared.paragraph.Atom.{Atom}
 use Rattle.tl_text.specs.Cuttings.{HasCutting}
 use Rattle.tl_table.specs.declared.cell.Content.TheOpen as open_content
@@ -14,14 +15,15 @@ use Rattle.tl_table.specs.declared.cell.Table.{Table, out-Table}
 use Rattle.tl_table.specs.declared.layout.Layout.{Layout, out-Layout}
 use Rattle.tl_page.specs.declared.line.Drawn.{Drawn}
 use Rattle.tl_page.specs.declared.line.Line.{Line}
-use Rattle.tl_page.specs.Pages.{AreParagraphLines, ShowsWithin, nested_lines}
+use Rattle.tl_page.specs.declared.look.Look.{Look}
+use Rattle.tl_page.specs.Pages.{AreParagraphLines, ShowsWithin, aligned, nested_lines}
 use Rattle.tl_page.specs.Pictures.{lines_of}
 use Rattle.tl_page.specs.inner.Contents.{FitsPage, FitsBlockRoom, ShowsPart, ShowsCells, picture_with}
 
 -- ---- styles
 
 pub row_gap-small : (style : Style) → row_gap_of style ≤ 2
-row_gap-small style = omega (arith, (spacing-sound style).close)
+row_gap-small style = omega (arith, (spacing-sound style 0 (omega arith)).close)
 
 -- ---- paragraphs
 
@@ -29,14 +31,14 @@ pub paragraph_fits : (style : Style) (w : ℕ) (paragraph : List Atom) (inner : 
     FitsBlockRoom style w (open_content.Para paragraph) inner next → HasCutting w paragraph
 paragraph_fits style w paragraph inner next fit = (fit.fits.0.0, fit.fits.0.1, fit.fits.0.2)
 
-pub paragraph_shown : (style : Style) (w : ℕ) (paragraph : List Atom) (inner : List Layout) (next : ℕ)
+pub paragraph_shown : (look : Look) (side : Side) (w : ℕ) (paragraph : List Atom) (inner : List Layout) (next : ℕ)
     (before lines more : List Line) →
-    AreParagraphLines w paragraph more → lines ≡ before ++ more →
-    ShowsPart style w (open_content.Para paragraph) inner next next before lines
-paragraph_shown style w paragraph inner next before lines more are written = record {
+    AreParagraphLines w paragraph more → lines ≡ before ++ map (aligned side w) more →
+    ShowsPart look side w (open_content.Para paragraph) inner next next before lines
+paragraph_shown look side w paragraph inner next before lines more are written = record {
   depth = 0;
-  content = record { lines = more; inner = [] };
-  shows = (are, refl);
+  content = record { lines = map (aligned side w) more; inner = [] };
+  shows = record { lines = more; cut = are; at_side = refl; inner = refl };
   written = written;
   rest = refl;
 }
@@ -63,15 +65,16 @@ module _ (style : Style) (w : ℕ) (table : Table) (inner : List Layout) (next :
       subst (FitsPage style table) (sym (is ∙ at)) fit.fits
 
 -- the lines of a page with cells that show their content
-pub page_shown : (style : Style) (table : Table) (layout : Layout) (cells : List Drawn) (page : List (List ℕ)) →
-    (shows : ShowsCells style table layout cells) →
-    page ≡ lines_of (picture_with style (out-Table table) (out-Layout layout) cells) →
-    ShowsWithin (suc shows.depth) style table layout page
-page_shown style table layout cells page shows drawn = record {
+pub page_shown : (look : Look) (table : Table) (layout : Layout) (cells : List Drawn) (page : List (List ℕ)) →
+    (shows : ShowsCells look table layout cells) →
+    page ≡ lines_of (picture_with look.style (out-Table table) (out-Layout layout) cells) →
+    ShowsWithin (suc shows.depth) look table layout page
+page_shown look table layout cells page shows drawn = record {
   contents = shows.contents;
   cells = shows.shows;
   inner = shows.inner;
-  drawn = drawn ∙ ap (λ cells. lines_of (picture_with style (out-Table table) (out-Layout layout) cells)) shows.drawn;
+  rows = shows.rows;
+  drawn = drawn ∙ ap (λ cells. lines_of (picture_with look.style (out-Table table) (out-Layout layout) cells)) shows.drawn;
 }
 
 -- a nested table is given the next layout
@@ -85,21 +88,21 @@ nested_given style w box inner next fit = record {
 }
 
 -- a nested table stands as its page
-pub nested_shown : (style : Style) (w : ℕ) (box : Box Table Global) (inner : List Layout) (next : ℕ) (layout : Layout)
+pub nested_shown : (look : Look) (side : Side) (w : ℕ) (box : Box Table Global) (inner : List Layout) (next : ℕ) (layout : Layout)
     (cells : List Drawn)
     (page : List (List ℕ))
     (before lines : List Line) → layout ≡ get_or inner next layout → next < length inner →
-    ShowsCells style box.value layout cells →
-    page ≡ lines_of (picture_with style (out-Table box.value) (out-Layout layout) cells) →
-    lines ≡ before ++ nested_lines style layout page →
-    ShowsPart style w (open_content.Table box) inner next (next + 1) before lines
-nested_shown style w box inner next layout cells page before lines is within shows drawn written = record {
+    ShowsCells look box.value layout cells →
+    page ≡ lines_of (picture_with look.style (out-Table box.value) (out-Layout layout) cells) →
+    lines ≡ before ++ nested_lines look.style layout page →
+    ShowsPart look side w (open_content.Table box) inner next (next + 1) before lines
+nested_shown look side w box inner next layout cells page before lines is within shows drawn written = record {
   depth = suc shows.depth;
-  content = record { lines = nested_lines style layout page; inner = layout ∷ [] };
+  content = record { lines = nested_lines look.style layout page; inner = layout ∷ [] };
   shows = record {
     layout = layout;
     page = page;
-    shown = page_shown style box.value layout cells page shows drawn;
+    shown = page_shown look box.value layout cells page shows drawn;
     lines = refl;
     inner = refl;
   };

@@ -11,18 +11,14 @@
 --              +--+---+       +-+-+      ||x|| |
 --                                        |+-+| |
 --                                        +---+-+
-use Rattle.std.proofs.Common.{◌≡◌, inr, ℕ, ◌+◌, false, List, [], ◌∷◌, Option, Some, None, codes, map, encode_utf8_all, refl, arith}
+use Rattle.std.proofs.Common.{◌≡◌, inr, ℕ, List, [], ◌∷◌, Option, Some, None, codes, map, encode_utf8_all, refl, arith}
 use Rattle.std.specs.Char.{encode_utf8}
 use Rattle.tl_base.specs.declared.style.Style.{Style}
-use Rattle.tl_base.specs.declared.style.Style.TheVariants.{Plain, Compact, Frame, Box}
+use Rattle.tl_base.specs.declared.style.Style.TheVariants.{Plain, Compact, Frame, Box, Rule, Apart}
 use Rattle.tl_base.specs.declared.style.Style.TheVariants as styles
 use Rattle.tl_grid.specs.declared.shape.Place.{Place}
-use Rattle.tl_table.specs.declared.cell.Kind.{Kind}
-use Rattle.tl_table.specs.declared.cell.Kind.TheVariants as kinds
-use Rattle.tl_table.specs.Tables.{OpenCell}
 use Rattle.tl_page.specs.declared.line.Line.{Line}
 use Rattle.tl_page.specs.Corners.{Grid}
-use Rattle.tl_page.specs.Pages.{head_row_of}
 use Rattle.tl_page.specs.Pictures.{Picture, picture, lines_of}
 use Rattle.tl_page.specs.Standing.{TextStandsAt}
 use Rattle.tl_page.specs.Widths.{TakesColumns}
@@ -30,8 +26,10 @@ use Rattle.tl_page.specs.Widths.{TakesColumns}
 abbrev place : ℕ → ℕ → ℕ → ℕ → Place
 place left right top bottom = record { left = left; right = right; top = top; bottom = bottom }
 
+-- a grid; its head, if there is one, ends under the last row of it
 abbrev grid : ℕ → ℕ → List Place → Option ℕ → Grid
-grid cols rows places head = record { cols = cols; rows = rows; places = places; head = head }
+grid cols rows places None = record { cols = cols; rows = rows; places = places; head = None; end = 0 }
+grid cols rows places (Some row) = record { cols = cols; rows = rows; places = places; head = Some row; end = row }
 
 -- ---- a span of columns
 
@@ -174,26 +172,96 @@ captioned_grid : lines_of (captioned styles.Grid (Some 2)) ≡
 unfolding encode_utf8
 captioned_grid = refl
 
--- ---- the last row of the head
+-- ---- style rule
 
-abbrev cell : Kind → ℕ → OpenCell
-cell kind row = record { kind = kind; in_head = false; place = place 0 1 row (row + 1); least = 0; blocks = [] }
+-- a head of one row over two columns
+abbrev fares : Picture
+fares = picture Rule (grid 2 2 (place 0 1 0 1 ∷ place 1 2 0 1 ∷ place 0 1 1 2 ∷ place 1 2 1 2 ∷ []) (Some 1)) (5 ∷ 4 ∷ [])
+    (1 ∷ 1 ∷ [])
+    ((record { text = codes "name"; width = 4 } ∷ []) ∷ (record { text = codes "fare"; width = 4 } ∷ [])
+    ∷ (record { text = codes "Bern"; width = 4 } ∷ []) ∷ (record { text = codes "12"; width = 2 } ∷ []) ∷ [])
 
--- a header cell, and another one below it
-head_above : head_row_of (cell kinds.Head 0 ∷ cell kinds.Plain 1 ∷ []) 2 ≡ Some 1
-head_above = refl
+fares_rule : lines_of fares ≡ codes "name  fare" ∷ codes "----- ----" ∷ codes "Bern  12  " ∷ []
+unfolding encode_utf8
+fares_rule = refl
 
--- a caption, a header cell, and another one below it
-head_below_caption : head_row_of (cell kinds.Caption 0 ∷ cell kinds.Head 1 ∷ cell kinds.Plain 2 ∷ []) 3 ≡ Some 2
-head_below_caption = refl
+-- the text below the line stands on the third line of the page
+below_rule : TextStandsAt (lines_of fares) 0 2 (codes "Bern")
+unfolding encode_utf8
+below_rule = record {
+  before = [];
+  after = codes "  12  ";
+  columns = record { pieces = []; each = tt; bytes = refl; columns = refl };
+  line = refl;
+}
 
--- a caption above cells without a head
-no_head : head_row_of (cell kinds.Caption 0 ∷ cell kinds.Plain 1 ∷ []) 2 ≡ None
-no_head = refl
+-- under a head cell over both columns the gap between them stays blank, and the line goes on over a slot without a cell
+spanned_rule : lines_of (spanned Rule (Some 1)) ≡ codes "aaaa  " ∷ codes "-- ---" ∷ codes "bb    " ∷ []
+unfolding encode_utf8
+spanned_rule = refl
 
--- a caption and a header cell with nothing below it
-head_alone : head_row_of (cell kinds.Caption 0 ∷ cell kinds.Head 1 ∷ []) 2 ≡ None
-head_alone = refl
+-- no line under the caption, which stands above the head
+captioned_rule : lines_of (captioned Rule (Some 2)) ≡ codes "t  " ∷ codes "a b" ∷ codes "- -" ∷ codes "c d" ∷ []
+unfolding encode_utf8
+captioned_rule = refl
+
+-- without a head there is no line, nor under one with nothing below it
+no_head_rule : lines_of (captioned Rule None) ≡ codes "t  " ∷ codes "a b" ∷ codes "c d" ∷ []
+unfolding encode_utf8
+no_head_rule = refl
+
+head_alone_rule : lines_of (captioned Rule (Some 3)) ≡ lines_of (captioned Rule None)
+unfolding encode_utf8
+head_alone_rule = refl
+
+-- ---- style apart
+
+-- under the head stands a line, between two rows below it an empty one, and after the last row none
+abbrev more_fares : Picture
+more_fares = picture Apart (grid 2 3 (place 0 1 0 1 ∷ place 1 2 0 1 ∷ place 0 1 1 2 ∷ place 1 2 1 2 ∷ place 0 1 2 3 ∷ place 1 2 2 3 ∷ [])
+    (Some 1)) (5 ∷ 4 ∷ []) (1 ∷ 1 ∷ 1 ∷ [])
+    ((record { text = codes "name"; width = 4 } ∷ []) ∷ (record { text = codes "fare"; width = 4 } ∷ [])
+    ∷ (record { text = codes "Bern"; width = 4 } ∷ []) ∷ (record { text = codes "12"; width = 2 } ∷ [])
+    ∷ (record { text = codes "Chur"; width = 4 } ∷ []) ∷ (record { text = codes "8"; width = 1 } ∷ []) ∷ [])
+
+fares_apart : lines_of more_fares ≡
+    codes "name  fare"
+    ∷ codes "----- ----"
+    ∷ codes "Bern  12  "
+    ∷ codes "          "
+    ∷ codes "Chur  8   " ∷ []
+unfolding encode_utf8
+fares_apart = refl
+
+-- the text of the last row stands on the fifth line of the page
+last_apart : TextStandsAt (lines_of more_fares) 0 4 (codes "Chur")
+unfolding encode_utf8
+last_apart = record {
+  before = [];
+  after = codes "  8   ";
+  columns = record { pieces = []; each = tt; bytes = refl; columns = refl };
+  line = refl;
+}
+
+-- the text of a cell over two rows goes on through the empty line beside it
+tall_apart : lines_of (picture Apart (grid 2 2 (beside ∷ upper ∷ lower ∷ []) None) (1 ∷ 1 ∷ []) (1 ∷ 1 ∷ [])
+    ((one 0x61 ∷ one 0x62 ∷ one 0x63 ∷ []) ∷ (one 0x78 ∷ []) ∷ (one 0x79 ∷ []) ∷ [])) ≡
+    codes "a x" ∷ codes "b  " ∷ codes "c y" ∷ []
+unfolding encode_utf8
+tall_apart = refl
+
+-- no line stands between two rows of a head, nor under a caption
+headed_apart : lines_of (captioned Apart (Some 2)) ≡ codes "t  " ∷ codes "a b" ∷ codes "- -" ∷ codes "c d" ∷ []
+unfolding encode_utf8
+headed_apart = refl
+
+-- a caption ends at the first row, and without a head all rows below it stand apart
+caption_apart : lines_of (picture Apart (record { cols = 2; rows = 3; places = cells_of_three_rows; head = None; end = 1 })
+    (1 ∷ 1 ∷ []) (1 ∷ 1 ∷ 1 ∷ [])
+    ((one 0x74 ∷ []) ∷ (one 0x61 ∷ []) ∷ (one 0x62 ∷ []) ∷ (one 0x63 ∷ []) ∷ (one 0x64 ∷ []) ∷ [])) ≡
+    codes "t  " ∷ codes "a b" ∷ codes "   " ∷ codes "c d" ∷ []
+unfolding encode_utf8
+caption_apart = refl
 
 -- ---- hardly any table
 

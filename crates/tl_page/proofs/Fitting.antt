@@ -9,13 +9,15 @@ use Rattle.tl_base.specs.declared.style.Style.{Style}
 use Rattle.tl_base.specs.Style.{gap_of, row_gap_of, edges_of}
 use Rattle.tl_base.proofs.SizeLaws.{sum-total}
 use Rattle.tl_grid.specs.Dropping.{IsPlaced}
+use Rattle.tl_sides.specs.declared.side.Side.{Side}
 use Rattle.tl_table.specs.declared.cell.Content.{Content as Block, out-Content}
 use Rattle.tl_table.specs.declared.cell.Content.TheOpen as open_content
 use Rattle.tl_table.specs.declared.cell.Table.{Table, out-Table}
 use Rattle.tl_table.specs.declared.layout.Layout.{Layout, out-Layout}
 use Rattle.tl_table.specs.Tables.{OpenTable, OpenCell, OpenContent}
-use Rattle.tl_table.specs.Layouts.{OpenLayout, Share, FitsShare, FitsRoom, FitsBy, FitsWithin}
+use Rattle.tl_table.specs.Layouts.{OpenLayout, Share, FitsShare, FitsRoom, FitsBy, FitsWithin, lines_of}
 use Rattle.tl_table.specs.Sound.{IsSound, IsSoundWithin, places_of}
+use Rattle.tl_page.specs.declared.look.Look.{Look}
 use Rattle.tl_page.specs.Pages.{Content, ShowsBlock, ShowsCell}
 use Rattle.tl_page.specs.inner.Contents.{FitsPage}
 
@@ -61,7 +63,7 @@ sound_table table sound = sound_within table sound.depth sound.sound
 
 -- sums far below a machine's numbers
 pub small_widths : (style : Style) (table : OpenTable) (layout : OpenLayout) → Sound table → Fitting style table layout →
-    sum layout.widths + 2 * length layout.widths < 2 ^ 31
+    sum layout.widths + 3 * length layout.widths < 2 ^ 31
 small_widths style table layout sound fit =
     omega (
       arith,
@@ -73,11 +75,11 @@ small_widths style table layout sound fit =
     )
 
 pub small_heights : (style : Style) (table : OpenTable) (layout : OpenLayout) → Sound table → Fitting style table layout →
-    sum layout.heights + 2 * length layout.heights < 2 ^ 31
+    sum layout.heights + 3 * length layout.heights < 2 ^ 31
 small_heights style table layout sound fit =
     omega (
       arith,
-      sum-total (row_gap_of style) (edges_of style) layout.heights,
+      sum-total (row_gap_of style) (lines_of style table) layout.heights,
       fit.fits.rows,
       fit.fits.high,
       fit.low,
@@ -92,17 +94,18 @@ pub same_rest : {X : Type 0} (xs ys more rest all : List X) → length xs ≡ le
 same_rest xs ys more rest all same one other =
     sym (drop_at xs more (length xs) refl) ∙ ap (drop (length xs)) (one ∙ sym other) ∙ drop_at ys rest (length xs) (sym same)
 
-module _ (fits : Table → ℕ → ℕ → Layout → Type 0) (shows : Table → Layout → List (List ℕ) → Type 0) (style : Style) (w : ℕ) where
+module _ (fits : Table → ℕ → ℕ → Layout → Type 0) (shows : Table → Layout → List (List ℕ) → Type 0) (look : Look) (side : Side)
+    (w : ℕ) where
   -- a block is given as many layouts as it shows
   pub as_many_in_block : (block : OpenContent) (share : Share) (content : Content) → FitsShare fits w block share →
-      ShowsBlock shows style w block content →
+      ShowsBlock shows look side w block content →
       length share.inner ≡ length content.inner
-  as_many_in_block (open_content.Para paragraph) share content fit shown = ap length fit.1 ∙ sym (ap length shown.1)
+  as_many_in_block (open_content.Para paragraph) share content fit shown = ap length fit.1 ∙ sym (ap length shown.inner)
   as_many_in_block (open_content.Table box) share content fit shown = ap length fit.given ∙ sym (ap length shown.inner)
 
   as_many_in_blocks : (blocks : List Block) (shares : List Share) (parts : List Content) →
       AllZip (λ block share. FitsShare fits w (out-Content block) share) blocks shares →
-      AllZip (λ block part. ShowsBlock shows style w (out-Content block) part) blocks parts →
+      AllZip (λ block part. ShowsBlock shows look side w (out-Content block) part) blocks parts →
       length (flat_map (λ share. share.inner) shares) ≡ length (flat_map (λ part. part.inner) parts)
   as_many_in_blocks [] [] [] fit shown = refl
   as_many_in_blocks [] [] (part ∷ parts) fit shown = absurd shown
@@ -120,7 +123,7 @@ module _ (fits : Table → ℕ → ℕ → Layout → Type 0) (shows : Table →
 
   -- a cell is given as many layouts as it shows
   pub as_many_in_cell : (h : ℕ) (cell : OpenCell) (given : List Layout) (content : Content) → FitsRoom fits w h cell given →
-      ShowsCell shows style w cell content →
+      ShowsCell shows look side w cell content →
       length given ≡ length content.inner
   as_many_in_cell h cell given content fit shown =
       ap length (sym fit.given) ∙ as_many_in_blocks cell.blocks fit.shares shown.parts fit.blocks shown.blocks ∙ ap length

@@ -1,7 +1,9 @@
 mod Examples
+mod AlignExamples
 pub mod Ranges
 pub mod StripLemmas
 pub mod SignLemmas
+pub mod HeadRows
 pub mod SlotLemmas
 pub mod LineTexts
 pub mod ParagraphLines
@@ -18,6 +20,7 @@ pub mod Sweeping
 pub mod Meeting
 pub mod LineWidths
 pub mod PageLines
+pub mod Sides
 pub mod GreedyLines
 pub mod Whole
 pub mod Taking

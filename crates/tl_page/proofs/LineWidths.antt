@@ -1,12 +1,12 @@
 -- Each line of a picture takes all columns, and the lines of a cell stand after all columns before the cell.
-use Rattle.std.proofs.Common.{◌≡◌, ℕ, zero, suc, ◌+◌, ◌-◌, ◌<◌, ◌≤◌, ◌&&◌, List, [], ◌∷◌, ◌++◌, Option, Some, None, length}
+use Rattle.std.proofs.Common.{◌≡◌, ℕ, zero, suc, ◌+◌, ◌-◌, ◌<◌, ◌≤◌, Bool, ◌&&◌, List, [], ◌∷◌, ◌++◌, Option, Some, None, length}
 use Rattle.std.proofs.Common.{slice_get, refl, sym}
 use Rattle.std.proofs.Common.{◌∙◌, ap, subst, arith, if◌then◌else◌, ne_eqb}
 use Rattle.std.specs.List.{All, AllByRecursion, AllPairs, AllZip}
 use Rattle.std.proofs.lemmas.Bool.{eq-eqb}
 use Rattle.std.proofs.lemmas.Option.{none-some, same_Some, slice_get_within, get_or_from_slice_get}
 use Rattle.tl_base.specs.declared.style.Style.{Style}
-use Rattle.tl_base.specs.Style.{gap_of, row_gap_of, edge_of, edges_of}
+use Rattle.tl_base.specs.Style.{gap_of, edge_of, edges_of}
 use Rattle.tl_grid.specs.declared.shape.Place.{Place}
 use Rattle.tl_grid.specs.Dropping.{IsPlaced}
 use Rattle.tl_grid.specs.Slots.{AreApart}
@@ -14,8 +14,9 @@ use Rattle.tl_base.specs.Sizes.{position, room, total}
 use Rattle.tl_page.specs.declared.line.Drawn.{Drawn}
 use Rattle.tl_page.specs.declared.line.Line.{Line}
 use Rattle.tl_page.specs.declared.strip.Strip.{Strip}
-use Rattle.tl_page.specs.Corners.{Grid, owner_of, is_under}
-use Rattle.tl_page.specs.Pictures.{drawn_cell, drawn_cells, picture, filled, spaces, inside_cell, piece, picture_line}
+use Rattle.tl_page.specs.Corners.{Grid, owner_of, is_on_line}
+use Rattle.tl_page.specs.Pictures.{drawn_cell, drawn_cells, picture, filled, spaces, inside_cell, piece, picture_line, row_gaps}
+use Rattle.tl_page.specs.Strips.{begin_in}
 use Rattle.tl_page.specs.Widths.{TakesColumns}
 use Rattle.tl_page.proofs.WidthLemmas.{HasWidth-append, HasWidth-spaces}
 use Rattle.tl_page.proofs.Sweeping.{IsSwept, strip_with, stands, whole_line}
@@ -73,7 +74,8 @@ module _ (style : Style) (grid : Grid) (widths heights : List ℕ) (contents : L
   cell_drawn : (places : List Place) (contents : List (List Line)) (n : ℕ) (place : Place) → AllZip HasRoom places contents →
       slice_get places n ≡ Some place →
       (lines : List Line) × HasRoom place lines × (slice_get contents n ≡ Some lines)
-      × (slice_get (drawn_cells style widths heights places contents) n ≡ Some (drawn_cell style widths heights place lines))
+      × (slice_get (drawn_cells style (row_gaps style grid) widths heights places contents) n
+      ≡ Some (drawn_cell style (row_gaps style grid) widths heights place lines))
   cell_drawn [] contents n place fit at = absurd (none-some place at)
   cell_drawn (first ∷ places) [] n place fit at = absurd fit
   cell_drawn (first ∷ places) (lines ∷ contents) zero place fit at =
@@ -81,7 +83,7 @@ module _ (style : Style) (grid : Grid) (widths heights : List ℕ) (contents : L
         lines,
         subst (λ (place : Place). HasRoom place lines) same fit.0,
         refl,
-        ap (λ (place : Place). Some (drawn_cell style widths heights place lines)) same,
+        ap (λ (place : Place). Some (drawn_cell style (row_gaps style grid) widths heights place lines)) same,
       )
   cell_drawn (first ∷ places) (lines ∷ contents) (suc n) place fit at = cell_drawn places contents n place fit.1 at
 
@@ -90,8 +92,17 @@ module _ (style : Style) (grid : Grid) (widths heights : List ℕ) (contents : L
     abbrev pub kind : ℕ → Option ℕ
     kind slot = through (owner_of grid slot down.before) (owner_of grid slot down.after)
 
+    -- the place where this strip of columns crosses that of the line is on the line under the head
+    abbrev pub on_line : Strip → Bool
+    on_line across = is_on_line style grid.head across down
+
+    -- the cells as they are drawn
+    abbrev pub drawn : List Drawn
+    drawn = drawn_cells style (row_gaps style grid) widths heights grid.places contents
+
+    -- what stands on the line inside this cell
     abbrev pub content : ℕ → List ℕ
-    content n = content_at (slice_get (drawn_cells style widths heights grid.places contents) n) y
+    content n = content_at (slice_get drawn n) y
 
     abbrev pub piece_at : Strip → List ℕ
     piece_at across = piece (picture style grid widths heights contents) down y across
@@ -102,8 +113,8 @@ module _ (style : Style) (grid : Grid) (widths heights : List ℕ) (contents : L
 
     drawn_at : (n : ℕ) (place : Place) → slice_get grid.places n ≡ Some place →
         (lines : List Line) × HasRoom place lines × (slice_get contents n ≡ Some lines)
-        × (slice_get (drawn_cells style widths heights grid.places contents) n
-        ≡ Some (drawn_cell style widths heights place lines))
+        × (slice_get (drawn_cells style (row_gaps style grid) widths heights grid.places contents) n
+        ≡ Some (drawn_cell style (row_gaps style grid) widths heights place lines))
     drawn_at n place at = cell_drawn grid.places contents n place fit.filled at
 
     placed : (slot n : ℕ) → kind slot ≡ Some n →
@@ -138,24 +149,22 @@ module _ (style : Style) (grid : Grid) (widths heights : List ℕ) (contents : L
       wide = λ n place at. let cell = drawn_at n place at in
           subst (λ some. TakesColumns (content_at some y) (room (gap_of style) widths place.left place.right)) (sym cell.3)
           (any_filled (room (gap_of style) widths place.left place.right) cell.0
-          (y - (edge_of style + position (row_gap_of style) heights place.top)) cell.1);
-      bare = λ slot from size none. bare_slot style (is_under grid.head down) (drawn_cells style widths heights grid.places contents)
-          (owner_of grid slot down.before)
-          (owner_of grid slot down.after) (strip_with slot slot from size) y none;
+          (y - (edge_of style + begin_in (row_gaps style grid) heights place.top)) cell.1);
+      bare = λ slot from size none. bare_slot style (on_line (strip_with slot slot from size)) drawn
+          (owner_of grid slot down.before) (owner_of grid slot down.after) (strip_with slot slot from size) y none;
       begun = λ slot from size n place some at begins. let cell = drawn_at n place at in
-          cell_slot style (is_under grid.head down) (drawn_cells style widths heights grid.places contents) (owner_of grid slot down.before)
+          cell_slot style (on_line (strip_with slot slot from size)) drawn (owner_of grid slot down.before)
           (owner_of grid slot down.after) (strip_with slot slot from size) y n some
           ∙ ap (λ some. inside_cell some (strip_with slot slot from size) y) cell.3
-          ∙ begun_cell (drawn_cell style widths heights place cell.0) slot from size y begins
+          ∙ begun_cell (drawn_cell style (row_gaps style grid) widths heights place cell.0) slot from size y begins
           ∙ ap (λ some. content_at some y) (sym cell.3);
       later = λ slot from size n place some at beyond. let cell = drawn_at n place at in
-          cell_slot style (is_under grid.head down) (drawn_cells style widths heights grid.places contents) (owner_of grid slot down.before)
+          cell_slot style (on_line (strip_with slot slot from size)) drawn (owner_of grid slot down.before)
           (owner_of grid slot down.after) (strip_with slot slot from size) y n some
           ∙ ap (λ some. inside_cell some (strip_with slot slot from size) y) cell.3
-          ∙ later_cell (drawn_cell style widths heights place cell.0) slot from size y beyond;
-      between = λ slot from size. gap_between style (is_under grid.head down) (drawn_cells style widths heights grid.places contents)
-          (owner_of grid slot down.before)
-          (owner_of grid (slot + 1) down.before) (owner_of grid slot down.after) (owner_of grid (slot + 1) down.after)
+          ∙ later_cell (drawn_cell style (row_gaps style grid) widths heights place cell.0) slot from size y beyond;
+      between = λ slot from size. gap_between style (on_line (strip_with slot (slot + 1) from size)) drawn
+          (owner_of grid slot down.before) (owner_of grid (slot + 1) down.before) (owner_of grid slot down.after) (owner_of grid (slot + 1) down.after)
           slot from size y;
     }
 
@@ -170,7 +179,7 @@ module _ (style : Style) (grid : Grid) (widths heights : List ℕ) (contents : L
         (before after : List ℕ) × TakesColumns before (edge_of style + position (gap_of style) widths place.left)
         × (picture_line (picture style grid widths heights contents) down y
         ≡ before ++ (filled (room (gap_of style) widths place.left place.right)
-        (slice_get lines (y - (edge_of style + position (row_gap_of style) heights place.top))) ++ after))
+        (slice_get lines (y - (edge_of style + begin_in (row_gaps style grid) heights place.top))) ++ after))
     cell_stands n place lines at stood above begun below ended =
         let cell = drawn_at n place at in
         let lies = placed_at n place at in
@@ -182,8 +191,8 @@ module _ (style : Style) (grid : Grid) (widths heights : List ℕ) (contents : L
         let found = stands kind grid.places (gap_of style) (edge_of style)
         widths content piece_at swept n place at (rw (one, two) (through_same n)) in
         let text : content n ≡ filled (room (gap_of style) widths place.left place.right)
-        (slice_get lines (y - (edge_of style + position (row_gap_of style) heights place.top))) =
+        (slice_get lines (y - (edge_of style + begin_in (row_gaps style grid) heights place.top))) =
         ap (λ some. content_at some y) cell.3
         ∙ ap (λ (list : List Line). filled (room (gap_of style) widths place.left place.right)
-        (slice_get list (y - (edge_of style + position (row_gap_of style) heights place.top)))) same in
+        (slice_get list (y - (edge_of style + begin_in (row_gaps style grid) heights place.top)))) same in
         (found.0, found.1, found.2, found.3 ∙ ap (λ content. found.0 ++ (content ++ found.1)) text)

@@ -6,28 +6,33 @@ use Rattle.std.specs.List.{All, AllZip, flat_map}
 use Rattle.std.proofs.lemmas.List.{take_all, drop_more, drop_all, map_push, length-map, get_or-map}
 use Rattle.std.proofs.lemmas.List.Concat.{flat_map-append}
 use Rattle.std.proofs.lemmas.List.Sums.{sum_by-cons}
+use Rattle.tl_align.specs.Sides.{side_of}
 use Rattle.tl_base.proofs.Zips.{AllZip-weaker, AllZip-length}
 use Rattle.tl_base.specs.declared.limits.TheConstants.{MAX_HEIGHT, MAX_PAGE_WIDTH}
 use Rattle.tl_base.specs.declared.style.Style.{Style}
 use Rattle.tl_base.specs.Style.{gap_of, row_gap_of, edges_of}
 use Rattle.tl_grid.specs.Dropping.{IsPlaced}
 use Rattle.tl_grid.specs.declared.shape.Place.{Place}
-use Rattle.tl_base.proofs.SizeLaws.{room-total}
+use Rattle.tl_base.proofs.SizeLaws.{room-total, total-sum}
 use Rattle.tl_base.proofs.Taken.{taken_more, AllZip-taken}
+use Rattle.tl_sides.specs.declared.side.Side.{Side}
 use Rattle.tl_table.specs.declared.cell.Content.{Content as Block, out-Content}
 use Rattle.tl_table.specs.declared.cell.Table.{Table, out-Table}
 use Rattle.tl_table.specs.declared.cell.TableCell.{TableCell, out-TableCell}
 use Rattle.tl_table.specs.declared.layout.Layout.{Layout, out-Layout}
 use Rattle.tl_table.specs.Tables.{OpenTable, OpenCell}
-use Rattle.tl_table.specs.Layouts.{OpenLayout, Share, FitsShare, FitsCell, FitsWithin, width_for, height_for}
+use Rattle.tl_table.specs.Layouts.{OpenLayout, Share, FitsShare, FitsCell, FitsWithin, lines_of, width_for, height_for}
 use Rattle.tl_table.specs.Sound.{place_of, places_of}
 use Rattle.tl_page.specs.declared.line.Drawn.{Drawn}
 use Rattle.tl_page.specs.declared.line.Line.{Line}
-use Rattle.tl_page.specs.Pages.{Content, ShowsBlock, ShowsCell, ShowsWithin}
-use Rattle.tl_page.specs.Pictures.{drawn_cell, drawn_cells}
+use Rattle.tl_page.specs.declared.look.Look.{Look}
+use Rattle.tl_page.specs.declared.strip.Gaps.{Gaps}
+use Rattle.tl_page.specs.Pages.{Content, ShowsBlock, ShowsCellOf, ShowsWithin, grid_of}
+use Rattle.tl_page.specs.Pictures.{drawn_cell, drawn_cells, row_gaps}
 use Rattle.tl_page.specs.inner.Contents.{FitsBlockRoom, FitsCellRoom, ShowsPart, ShowsParts, ShowsCells}
 use Rattle.tl_page.proofs.Deeper.{ShowsBlock-weaker, ShowsCell-weaker, ShowsWithin-deeper, ShowsWithin-deeper'}
 use Rattle.tl_page.proofs.Fitting.{Fitting, same_rest, as_many_in_block, as_many_in_cell}
+use Rattle.tl_page.proofs.HeadRows.{lines_inside-few}
 
 -- ---- lists
 
@@ -56,24 +61,24 @@ one_further before one left now all step sofar = append_assoc before one left �
 -- ---- the blocks of a cell
 
 -- the first `i` blocks stand in the lines, and the others are left to fit
-pub record BlocksSoFar (style : Style) (w : ℕ) (blocks : List Block) (inner : List Layout) (start : ℕ) (i next : ℕ)
+pub record BlocksSoFar (look : Look) (side : Side) (w : ℕ) (blocks : List Block) (inner : List Layout) (start : ℕ) (i next : ℕ)
     (lines : List Line) : Type 0 where
   pub depth : ℕ
   pub parts : List Content
-  pub shows : AllZip (λ block part. ShowsBlock (ShowsWithin depth style) style w (out-Content block) part) (take i blocks) parts
+  pub shows : AllZip (λ block part. ShowsBlock (ShowsWithin depth look) look side w (out-Content block) part) (take i blocks) parts
   pub written : lines ≡ flat_map (λ part. part.lines) parts
   pub rest : flat_map (λ part. part.inner) parts ++ drop next inner ≡ drop start inner
   pub level : ℕ
   pub shares : List Share
-  pub fits : AllZip (λ block share. FitsShare (FitsWithin level style) w (out-Content block) share) (drop i blocks) shares
+  pub fits : AllZip (λ block share. FitsShare (FitsWithin level look.style) w (out-Content block) share) (drop i blocks) shares
   pub low : sum_by (λ share. share.height) shares ≤ MAX_HEIGHT
   pub more : List Layout
   pub left : flat_map (λ share. share.inner) shares ++ more ≡ drop next inner
 
-pub blocks-none : (style : Style) (w : ℕ) (cell : OpenCell) (inner : List Layout) (start : ℕ) →
-    FitsCellRoom style w cell inner start →
-    BlocksSoFar style w cell.blocks inner start 0 start []
-blocks-none style w cell inner start fit = record {
+pub blocks-none : (look : Look) (side : Side) (w : ℕ) (cell : OpenCell) (inner : List Layout) (start : ℕ) →
+    FitsCellRoom look.style w cell inner start →
+    BlocksSoFar look side w cell.blocks inner start 0 start []
+blocks-none look side w cell inner start fit = record {
   depth = 0;
   parts = [];
   shows = tt;
@@ -88,12 +93,12 @@ blocks-none style w cell inner start fit = record {
 }
 
 -- the next block fits by the next layouts
-pub block-next : (style : Style) (w : ℕ) (blocks : List Block) (inner : List Layout) (start i next : ℕ) (lines : List Line)
+pub block-next : (look : Look) (side : Side) (w : ℕ) (blocks : List Block) (inner : List Layout) (start i next : ℕ) (lines : List Line)
     (block : Block) →
-    w ≤ MAX_PAGE_WIDTH → i < length blocks → block ≡ get_or blocks i block → BlocksSoFar style w blocks inner start i next lines →
-    FitsBlockRoom style w (out-Content block) inner next
-block-next style w blocks inner start i next lines block narrow within is sofar =
-    let first = left_first (λ block share. FitsShare (FitsWithin sofar.level style) w (out-Content block) share)
+    w ≤ MAX_PAGE_WIDTH → i < length blocks → block ≡ get_or blocks i block → BlocksSoFar look side w blocks inner start i next lines →
+    FitsBlockRoom look.style w (out-Content block) inner next
+block-next look side w blocks inner start i next lines block narrow within is sofar =
+    let first = left_first (λ block share. FitsShare (FitsWithin sofar.level look.style) w (out-Content block) share)
     blocks i block sofar.shares within is
     sofar.fits in
     let sum = sum_by-cons (λ (share : Share). share.height) first.0 first.1 in
@@ -110,27 +115,27 @@ block-next style w blocks inner start i next lines block narrow within is sofar 
     }
 
 -- the next block stands after those so far
-pub blocks-more : (style : Style) (w : ℕ) (blocks : List Block) (inner : List Layout) (start i next after : ℕ)
+pub blocks-more : (look : Look) (side : Side) (w : ℕ) (blocks : List Block) (inner : List Layout) (start i next after : ℕ)
     (lines new : List Line) (block : Block) →
-    i < length blocks → block ≡ get_or blocks i block → BlocksSoFar style w blocks inner start i next lines →
-    ShowsPart style w (out-Content block) inner next after lines new → BlocksSoFar style w blocks inner start (i + 1) after new
-blocks-more style w blocks inner start i next after lines new block within is sofar part =
-    let first = left_first (λ block share. FitsShare (FitsWithin sofar.level style) w (out-Content block) share)
+    i < length blocks → block ≡ get_or blocks i block → BlocksSoFar look side w blocks inner start i next lines →
+    ShowsPart look side w (out-Content block) inner next after lines new → BlocksSoFar look side w blocks inner start (i + 1) after new
+blocks-more look side w blocks inner start i next after lines new block within is sofar part =
+    let first = left_first (λ block share. FitsShare (FitsWithin sofar.level look.style) w (out-Content block) share)
     blocks i block sofar.shares within is
     sofar.fits in
     let sum = sum_by-cons (λ (share : Share). share.height) first.0 first.1 in
     let whole = ap (sum_by (λ (share : Share). share.height)) first.2 in
     let deep = part.depth + sofar.depth in
-    let shown = λ (block : Block) (part : Content). ShowsBlock (ShowsWithin deep style) style w (out-Content block) part in
+    let shown = λ (block : Block) (part : Content). ShowsBlock (ShowsWithin deep look) look side w (out-Content block) part in
     let others : AllZip shown (take i blocks) sofar.parts =
-    AllZip-weaker (λ block part. ShowsBlock (ShowsWithin sofar.depth style) style w (out-Content block) part) shown
+    AllZip-weaker (λ block part. ShowsBlock (ShowsWithin sofar.depth look) look side w (out-Content block) part) shown
     (take i blocks) sofar.parts
-    (λ block content one. ShowsBlock-weaker (ShowsWithin sofar.depth style) (ShowsWithin deep style)
-    (ShowsWithin-deeper part.depth sofar.depth style)
-    style w (out-Content block) content one) sofar.shows in
+    (λ block content one. ShowsBlock-weaker (ShowsWithin sofar.depth look) (ShowsWithin deep look)
+    (ShowsWithin-deeper part.depth sofar.depth look)
+    look side w (out-Content block) content one) sofar.shows in
     let this : shown block part.content =
-    ShowsBlock-weaker (ShowsWithin part.depth style) (ShowsWithin deep style) (ShowsWithin-deeper' sofar.depth part.depth style)
-    style w (out-Content block) part.content part.shows in
+    ShowsBlock-weaker (ShowsWithin part.depth look) (ShowsWithin deep look) (ShowsWithin-deeper' sofar.depth part.depth look)
+    look side w (out-Content block) part.content part.shows in
     let given : first.0.inner ++ (flat_map (λ share. share.inner) first.1 ++ sofar.more) ≡ drop next inner =
     sym (append_assoc first.0.inner (flat_map (λ share. share.inner) first.1) sofar.more)
     ∙ ap (λ shares. flat_map (λ share. share.inner) shares ++ sofar.more) (sym first.2) ∙ sofar.left in
@@ -150,20 +155,20 @@ blocks-more style w blocks inner start i next after lines new block within is so
       more = sofar.more;
       left = same_rest first.0.inner part.content.inner (flat_map (λ share. share.inner) first.1 ++ sofar.more)
           (drop after inner) (drop next inner)
-          (as_many_in_block (FitsWithin sofar.level style) (ShowsWithin part.depth style) style w (out-Content block)
+          (as_many_in_block (FitsWithin sofar.level look.style) (ShowsWithin part.depth look) look side w (out-Content block)
           first.0 part.content first.3 part.shows)
           given part.rest;
     }
 
-pub blocks-all : (style : Style) (w : ℕ) (cell : OpenCell) (inner : List Layout) (start i next : ℕ) (lines : List Line) →
+pub blocks-all : (look : Look) (side : Side) (w : ℕ) (cell : OpenCell) (inner : List Layout) (start i next : ℕ) (lines : List Line) →
     take i cell.blocks ≡ cell.blocks →
-    BlocksSoFar style w cell.blocks inner start i next lines → ShowsParts style w cell inner start next lines
-blocks-all style w cell inner start i next lines all sofar = record {
+    BlocksSoFar look side w cell.blocks inner start i next lines → ShowsParts look side w cell inner start next lines
+blocks-all look side w cell inner start i next lines all sofar = record {
   depth = sofar.depth;
   content = record { lines = flat_map (λ part. part.lines) sofar.parts; inner = flat_map (λ part. part.inner) sofar.parts };
   shows = record {
     parts = sofar.parts;
-    blocks = subst (λ some. AllZip (λ block part. ShowsBlock (ShowsWithin sofar.depth style) style w (out-Content block) part)
+    blocks = subst (λ some. AllZip (λ block part. ShowsBlock (ShowsWithin sofar.depth look) look side w (out-Content block) part)
         some sofar.parts) all
         sofar.shows;
     lines = refl;
@@ -175,42 +180,40 @@ blocks-all style w cell inner start i next lines all sofar = record {
 
 -- ---- the cells of a table
 
-drawn_cells-push : (style : Style) (widths heights : List ℕ) (places : List Place) (contents : List (List Line)) (place : Place)
-    (lines : List Line) →
+drawn_cells-push : (style : Style) (gaps : Gaps) (widths heights : List ℕ) (places : List Place) (contents : List (List Line))
+    (place : Place) (lines : List Line) →
     length places ≡ length contents →
-    drawn_cells style widths heights (places ++ place ∷ []) (contents ++ lines ∷ [])
-    ≡ drawn_cells style widths heights places contents ++ drawn_cell style widths heights place lines ∷ []
-drawn_cells-push style widths heights [] [] place lines same = refl
-drawn_cells-push style widths heights [] (content ∷ contents) place lines same = absurd (omega arith)
-drawn_cells-push style widths heights (one ∷ places) [] place lines same = absurd (omega arith)
-drawn_cells-push style widths heights (one ∷ places) (content ∷ contents) place lines same =
-    ap (λ rest. drawn_cell style widths heights one content ∷ rest)
-    (drawn_cells-push style widths heights places contents place lines (omega arith))
+    drawn_cells style gaps widths heights (places ++ place ∷ []) (contents ++ lines ∷ [])
+    ≡ drawn_cells style gaps widths heights places contents ++ drawn_cell style gaps widths heights place lines ∷ []
+drawn_cells-push style gaps widths heights [] [] place lines same = refl
+drawn_cells-push style gaps widths heights [] (content ∷ contents) place lines same = absurd (omega arith)
+drawn_cells-push style gaps widths heights (one ∷ places) [] place lines same = absurd (omega arith)
+drawn_cells-push style gaps widths heights (one ∷ places) (content ∷ contents) place lines same =
+    ap (λ rest. drawn_cell style gaps widths heights one content ∷ rest)
+    (drawn_cells-push style gaps widths heights places contents place lines (omega arith))
 
 AllZip-none : {A B : Type 0} (R : A → B → Type 0) (ys : List B) → AllZip R [] ys → ys ≡ []
 AllZip-none R [] all = refl
 AllZip-none R (y ∷ ys) all = absurd all
 
 -- the first `i` cells are drawn, and the others are left to fit
-pub record CellsSoFar (style : Style) (table : OpenTable) (layout : OpenLayout) (i next : ℕ) (cells : List Drawn) : Type 0 where
+pub record CellsSoFar (look : Look) (table : OpenTable) (layout : OpenLayout) (i next : ℕ) (cells : List Drawn) : Type 0 where
   pub depth : ℕ
   pub contents : List Content
-  pub shows : AllZip (λ cell content. ShowsCell (ShowsWithin depth style) style
-      (width_for style layout (out-TableCell cell).place)
-      (out-TableCell cell) content)
+  pub shows : AllZip (λ cell content. ShowsCellOf (ShowsWithin depth look) look table layout (out-TableCell cell) content)
       (take i table.cells) contents
-  pub written : cells ≡ drawn_cells style layout.widths layout.heights (map place_of (take i table.cells))
+  pub written : cells ≡ drawn_cells look.style (row_gaps look.style (grid_of table)) layout.widths layout.heights (map place_of (take i table.cells))
       (map (λ content. content.lines) contents)
   pub rest : flat_map (λ content. content.inner) contents ++ drop next layout.inner ≡ layout.inner
   pub level : ℕ
   pub parts : List (List Layout)
-  pub fits : AllZip (λ cell given. FitsCell (FitsWithin level style) style layout (out-TableCell cell) given)
+  pub fits : AllZip (λ cell given. FitsCell (FitsWithin level look.style) look.style table layout (out-TableCell cell) given)
       (drop i table.cells) parts
   pub left : flat_map (λ given. given) parts ≡ drop next layout.inner
 
-pub cells-none : (style : Style) (table : OpenTable) (layout : OpenLayout) → Fitting style table layout →
-    CellsSoFar style table layout 0 0 []
-cells-none style table layout fit = record {
+pub cells-none : (look : Look) (table : OpenTable) (layout : OpenLayout) → Fitting look.style table layout →
+    CellsSoFar look table layout 0 0 []
+cells-none look table layout fit = record {
   depth = 0;
   contents = [];
   shows = tt;
@@ -235,12 +238,16 @@ narrow_room style table layout place fit placed =
     )
 
 low_room : (style : Style) (table : OpenTable) (layout : OpenLayout) (place : Place) → Fitting style table layout →
-    IsPlaced table.cols table.rows place → height_for style layout place ≤ MAX_HEIGHT
+    IsPlaced table.cols table.rows place → height_for style table layout place ≤ MAX_HEIGHT
 low_room style table layout place fit placed =
     let within : place.bottom ≤ length layout.heights = omega (arith, fit.fits.rows, placed.3) in
+    let some : 0 < length layout.heights = omega (arith, placed.2, within) in
     omega (
       arith,
-      room-total (row_gap_of style) (edges_of style) layout.heights place.top place.bottom placed.2 within,
+      room-total (row_gap_of style) 0 layout.heights place.top place.bottom placed.2 within,
+      total-sum (row_gap_of style) 0 layout.heights some,
+      total-sum (row_gap_of style) (lines_of style table) layout.heights some,
+      lines_inside-few style table place placed.2 placed.3,
       fit.fits.high,
       fit.low,
     )
@@ -257,20 +264,20 @@ placed_cell table i cell placed within is =
     subst (IsPlaced table.cols table.rows) same (placed i (place_of cell) many)
 
 -- the next cell fits by the next layouts
-pub cell-next : (style : Style) (table : OpenTable) (layout : OpenLayout) (i next : ℕ) (cells : List Drawn) (cell : TableCell) →
-    Fitting style table layout → IsPlaced table.cols table.rows (place_of cell) → i < length table.cells →
+pub cell-next : (look : Look) (table : OpenTable) (layout : OpenLayout) (i next : ℕ) (cells : List Drawn) (cell : TableCell) →
+    Fitting look.style table layout → IsPlaced table.cols table.rows (place_of cell) → i < length table.cells →
     cell ≡ get_or table.cells i cell →
-    CellsSoFar style table layout i next cells →
-    FitsCellRoom style (width_for style layout (place_of cell)) (out-TableCell cell) layout.inner next
-cell-next style table layout i next cells cell fit placed within is sofar =
-    let first = left_first (λ cell given. FitsCell (FitsWithin sofar.level style) style layout (out-TableCell cell) given)
+    CellsSoFar look table layout i next cells →
+    FitsCellRoom look.style (width_for look.style layout (place_of cell)) (out-TableCell cell) layout.inner next
+cell-next look table layout i next cells cell fit placed within is sofar =
+    let first = left_first (λ cell given. FitsCell (FitsWithin sofar.level look.style) look.style table layout (out-TableCell cell) given)
     table.cells i cell
     sofar.parts within is sofar.fits in
     record {
-      narrow = narrow_room style table layout (place_of cell) fit placed;
+      narrow = narrow_room look.style table layout (place_of cell) fit placed;
       depth = sofar.level;
-      height = height_for style layout (place_of cell);
-      low = low_room style table layout (place_of cell) fit placed;
+      height = height_for look.style table layout (place_of cell);
+      low = low_room look.style table layout (place_of cell) fit placed;
       given = first.0;
       fits = first.3;
       more = flat_map (λ given. given) first.1;
@@ -278,48 +285,50 @@ cell-next style table layout i next cells cell fit placed within is sofar =
     }
 
 -- the next cell is drawn after those so far
-pub cells-more : (style : Style) (table : OpenTable) (layout : OpenLayout) (i next after : ℕ) (cells : List Drawn)
+pub cells-more : (look : Look) (table : OpenTable) (layout : OpenLayout) (i next after : ℕ) (cells : List Drawn)
     (lines : List Line) (cell : TableCell) →
-    i < length table.cells → cell ≡ get_or table.cells i cell → CellsSoFar style table layout i next cells →
-    ShowsParts style (width_for style layout (place_of cell)) (out-TableCell cell) layout.inner next after lines →
-    CellsSoFar style table layout (i + 1) after
-    (cells ++ drawn_cell style layout.widths layout.heights (place_of cell) lines ∷ [])
-cells-more style table layout i next after cells lines cell within is sofar part =
-    let first = left_first (λ cell given. FitsCell (FitsWithin sofar.level style) style layout (out-TableCell cell) given)
+    i < length table.cells → cell ≡ get_or table.cells i cell → CellsSoFar look table layout i next cells →
+    ShowsParts look (side_of look.align table (out-TableCell cell)) (width_for look.style layout (place_of cell)) (out-TableCell cell)
+    layout.inner next after lines →
+    CellsSoFar look table layout (i + 1) after
+    (cells ++ drawn_cell look.style (row_gaps look.style (grid_of table)) layout.widths layout.heights (place_of cell) lines ∷ [])
+cells-more look table layout i next after cells lines cell within is sofar part =
+    let first = left_first (λ cell given. FitsCell (FitsWithin sofar.level look.style) look.style table layout (out-TableCell cell) given)
     table.cells i cell
     sofar.parts within is sofar.fits in
     let deep = part.depth + sofar.depth in
-    let room = λ (cell : TableCell). width_for style layout (out-TableCell cell).place in
-    let shown = λ (cell : TableCell) (content : Content). ShowsCell (ShowsWithin deep style) style (room cell)
+    let room = λ (cell : TableCell). width_for look.style layout (out-TableCell cell).place in
+    let side = λ (cell : TableCell). side_of look.align table (out-TableCell cell) in
+    let shown = λ (cell : TableCell) (content : Content). ShowsCellOf (ShowsWithin deep look) look table layout
     (out-TableCell cell) content in
     let others : AllZip shown (take i table.cells) sofar.contents =
-    AllZip-weaker (λ cell content. ShowsCell (ShowsWithin sofar.depth style) style (room cell) (out-TableCell cell) content) shown
+    AllZip-weaker (λ cell content. ShowsCellOf (ShowsWithin sofar.depth look) look table layout (out-TableCell cell) content) shown
     (take i table.cells) sofar.contents
-    (λ cell content one. ShowsCell-weaker (ShowsWithin sofar.depth style) (ShowsWithin deep style)
-    (ShowsWithin-deeper part.depth sofar.depth style)
-    style (room cell) (out-TableCell cell) content one) sofar.shows in
+    (λ cell content one. ShowsCell-weaker (ShowsWithin sofar.depth look) (ShowsWithin deep look)
+    (ShowsWithin-deeper part.depth sofar.depth look)
+    look (side cell) (room cell) (out-TableCell cell) content one) sofar.shows in
     let this : shown cell part.content =
-    ShowsCell-weaker (ShowsWithin part.depth style) (ShowsWithin deep style) (ShowsWithin-deeper' sofar.depth part.depth style)
-    style (room cell) (out-TableCell cell) part.content part.shows in
+    ShowsCell-weaker (ShowsWithin part.depth look) (ShowsWithin deep look) (ShowsWithin-deeper' sofar.depth part.depth look)
+    look (side cell) (room cell) (out-TableCell cell) part.content part.shows in
     let taken = taken_more table.cells i cell cell within is in
-    let lines_of = λ (content : Content). content.lines in
-    let many : length (map place_of (take i table.cells)) ≡ length (map lines_of sofar.contents) =
+    let content_lines = λ (content : Content). content.lines in
+    let many : length (map place_of (take i table.cells)) ≡ length (map content_lines sofar.contents) =
     length-map (take i table.cells) place_of ∙ AllZip-length shown (take i table.cells) sofar.contents others ∙ sym
-    (length-map sofar.contents lines_of) in
+    (length-map sofar.contents content_lines) in
     let places : map place_of (take (i + 1) table.cells) ≡ map place_of (take i table.cells) ++ place_of cell ∷ [] =
     ap (map place_of) taken ∙ map_push place_of (take i table.cells) cell in
     record {
       depth = deep;
       contents = sofar.contents ++ part.content ∷ [];
       shows = AllZip-taken shown table.cells sofar.contents i cell cell part.content within is others this;
-      written = ap₂ (λ (before : List Drawn) (last : List Line). before ++ drawn_cell style layout.widths layout.heights
-          (place_of cell) last ∷ [])
+      written = ap₂ (λ (before : List Drawn) (last : List Line). before ++ drawn_cell look.style (row_gaps look.style (grid_of table))
+          layout.widths layout.heights (place_of cell) last ∷ [])
           sofar.written part.written
-          ∙ sym (drawn_cells-push style layout.widths layout.heights (map place_of (take i table.cells))
-          (map lines_of sofar.contents)
+          ∙ sym (drawn_cells-push look.style (row_gaps look.style (grid_of table)) layout.widths layout.heights (map place_of (take i table.cells))
+          (map content_lines sofar.contents)
           (place_of cell) part.content.lines many)
-          ∙ ap₂ (drawn_cells style layout.widths layout.heights) (sym places)
-          (sym (map_push lines_of sofar.contents part.content));
+          ∙ ap₂ (drawn_cells look.style (row_gaps look.style (grid_of table)) layout.widths layout.heights) (sym places)
+          (sym (map_push content_lines sofar.contents part.content));
       rest = ap (λ used. used ++ drop after layout.inner) (flat_map-push (λ (content : Content). content.inner)
           sofar.contents part.content)
           ∙ one_further (flat_map (λ content. content.inner) sofar.contents) part.content.inner (drop after layout.inner)
@@ -329,34 +338,34 @@ cells-more style table layout i next after cells lines cell within is sofar part
       fits = first.4;
       left = same_rest first.0 part.content.inner (flat_map (λ given. given) first.1) (drop after layout.inner)
           (drop next layout.inner)
-          (as_many_in_cell (FitsWithin sofar.level style) (ShowsWithin part.depth style) style (room cell)
-          (height_for style layout (place_of cell))
+          (as_many_in_cell (FitsWithin sofar.level look.style) (ShowsWithin part.depth look) look (side cell) (room cell)
+          (height_for look.style table layout (place_of cell))
           (out-TableCell cell)
           first.0 part.content first.3 part.shows)
           (ap (flat_map (λ given. given)) (sym first.2) ∙ sofar.left) part.rest;
     }
 
-pub cells-all : (style : Style) (table : Table) (layout : Layout) (i next : ℕ) (cells : List Drawn) →
-    length (out-Table table).cells ≤ i →
-    CellsSoFar style (out-Table table) (out-Layout layout) i next cells → ShowsCells style table layout cells
-cells-all style table layout i next cells all sofar =
+pub cells-all : (look : Look) (table : Table) (layout : Layout) (i next : ℕ) (cells : List Drawn) →
+    length (out-Layout layout).heights ≡ (out-Table table).rows → length (out-Table table).cells ≤ i →
+    CellsSoFar look (out-Table table) (out-Layout layout) i next cells → ShowsCells look table layout cells
+cells-all look table layout i next cells rows all sofar =
     let every = (out-Table table).cells in
     let taken : take i every ≡ every = take_all i every all in
     let none : sofar.parts ≡ [] = AllZip-none
-    (λ cell given. FitsCell (FitsWithin sofar.level style) style (out-Layout layout) (out-TableCell cell) given) sofar.parts
-    (subst (λ some. AllZip (λ cell given. FitsCell (FitsWithin sofar.level style) style (out-Layout layout) (out-TableCell cell)
+    (λ cell given. FitsCell (FitsWithin sofar.level look.style) look.style (out-Table table) (out-Layout layout) (out-TableCell cell) given) sofar.parts
+    (subst (λ some. AllZip (λ cell given. FitsCell (FitsWithin sofar.level look.style) look.style (out-Table table) (out-Layout layout) (out-TableCell cell)
     given) some
     sofar.parts) (drop_all i every all) sofar.fits) in
     let left : drop next (out-Layout layout).inner ≡ [] = sym sofar.left ∙ ap (flat_map (λ given. given)) none in
     record {
       depth = sofar.depth;
       contents = sofar.contents;
-      shows = subst (λ some. AllZip (λ cell content. ShowsCell (ShowsWithin sofar.depth style) style
-          (width_for style (out-Layout layout) (out-TableCell cell).place)
-          (out-TableCell cell) content) some sofar.contents) taken sofar.shows;
+      shows = subst (λ some. AllZip (λ cell content. ShowsCellOf (ShowsWithin sofar.depth look) look (out-Table table)
+          (out-Layout layout) (out-TableCell cell) content) some sofar.contents) taken sofar.shows;
       inner = sym (append-nil (flat_map (λ content. content.inner) sofar.contents))
           ∙ ap (λ rest. flat_map (λ content. content.inner) sofar.contents ++ rest) (sym left) ∙ sofar.rest;
-      drawn = sofar.written ∙ ap (λ some. drawn_cells style (out-Layout layout).widths (out-Layout layout).heights
-          (map place_of some)
+      rows = rows;
+      drawn = sofar.written ∙ ap (λ some. drawn_cells look.style (row_gaps look.style (grid_of (out-Table table)))
+          (out-Layout layout).widths (out-Layout layout).heights (map place_of some)
           (map (λ content. content.lines) sofar.contents)) taken;
     }

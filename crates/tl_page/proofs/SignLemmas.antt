@@ -6,7 +6,7 @@ use Rattle.std.specs.List.{list_all}
 use Rattle.std.proofs.lemmas.Bool.{eqb-true}
 use Rattle.std.proofs.lemmas.List.Sums.{AllPass-from_list_all}
 use Rattle.tl_base.specs.declared.style.Style.{Style}
-use Rattle.tl_base.specs.declared.style.Style.TheVariants.{Plain, Compact, Frame, Grid, Box}
+use Rattle.tl_base.specs.declared.style.Style.TheVariants.{Plain, Compact, Frame, Grid, Box, Rule, Apart}
 use Rattle.tl_text.specs.Words.{width_of}
 use Rattle.unicode_width.proofs.Computing.{unicode_width}
 use Rattle.tl_page.specs.Pictures.{spaces}
@@ -82,3 +82,7 @@ sign_is Grid false up down left right = ascii_is 0x2D up down left right (2, ome
 sign_is Grid true up down left right = ascii_is 0x3D up down left right (4, omega arith, refl)
 sign_is Box false up down left right = light_is up down left right
 sign_is Box true up down left right = double_is up down left right
+sign_is Rule false up down left right = (0, omega arith, refl)
+sign_is Rule true up down left right = (2, omega arith, refl)
+sign_is Apart false up down left right = (0, omega arith, refl)
+sign_is Apart true up down left right = (2, omega arith, refl)

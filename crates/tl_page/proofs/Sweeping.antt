@@ -10,7 +10,7 @@ use Rattle.tl_grid.specs.declared.shape.Place.{Place}
 use Rattle.tl_base.specs.Sizes.{position, room, total}
 use Rattle.tl_base.proofs.SizeLaws.{total-position, room-position, position-next}
 use Rattle.tl_page.specs.declared.strip.Strip.{Strip}
-use Rattle.tl_page.specs.Strips.{following, strips_from, strips}
+use Rattle.tl_page.specs.Strips.{even, following, strips_from, strips}
 use Rattle.tl_page.specs.Signs.{IsSign, run}
 use Rattle.tl_page.specs.Widths.{TakesColumns}
 use Rattle.tl_page.proofs.StripLemmas.{following-more}
@@ -72,7 +72,7 @@ module _ (kind : ℕ → Option ℕ) (places : List Place) (gap edge : ℕ) (wid
   pub record Before (text : List ℕ) (slot : ℕ) : Type 0 where
     pub from : ℕ
     pub written : List ℕ
-    pub left : text ≡ written ++ flat_map piece (strips_from gap edge (slot + 1) from (drop slot widths))
+    pub left : text ≡ written ++ flat_map piece (strips_from (even gap) edge (slot + 1) from (drop slot widths))
     pub width : ℕ
     pub wide : TakesColumns written width
     pub state : IsFresh slot width ⊎ GoesOn slot width
@@ -81,8 +81,8 @@ module _ (kind : ℕ → Option ℕ) (places : List Place) (gap edge : ℕ) (wid
   pub record After (text : List ℕ) (slot : ℕ) : Type 0 where
     pub from : ℕ
     pub written : List ℕ
-    pub left : text ≡ written ++ (piece (strip_with (slot + 1) (slot + 1 + 1) from (following gap edge (drop (slot + 1) widths)))
-        ++ flat_map piece (strips_from gap edge (slot + 1 + 1) (from + gap) (drop (slot + 1) widths)))
+    pub left : text ≡ written ++ (piece (strip_with (slot + 1) (slot + 1 + 1) from (following (even gap) edge (slot + 1) (drop (slot + 1) widths)))
+        ++ flat_map piece (strips_from (even gap) edge (slot + 1 + 1) (from + gap) (drop (slot + 1) widths)))
     pub width : ℕ
     pub wide : TakesColumns written width
     pub past : ℕ
@@ -91,11 +91,11 @@ module _ (kind : ℕ → Option ℕ) (places : List Place) (gap edge : ℕ) (wid
         ⊎ ((n : ℕ) × (place : Place) × (kind (slot + 1) ≡ Some n) × (slice_get places n ≡ Some place) × (past ≡ place.right))
 
   strips_at : (slot from : ℕ) → slot < length widths →
-      flat_map piece (strips_from gap edge (slot + 1) from (drop slot widths))
+      flat_map piece (strips_from (even gap) edge (slot + 1) from (drop slot widths))
       ≡ piece (strip_with (slot + 1) (slot + 1) from (get_or widths slot 0))
-      ++ (piece (strip_with (slot + 1) (slot + 1 + 1) (from + get_or widths slot 0) (following gap edge (drop (slot + 1) widths)))
-      ++ flat_map piece (strips_from gap edge (slot + 1 + 1) (from + get_or widths slot 0 + gap) (drop (slot + 1) widths)))
-  strips_at slot from within = ap (λ sizes. flat_map piece (strips_from gap edge (slot + 1) from sizes))
+      ++ (piece (strip_with (slot + 1) (slot + 1 + 1) (from + get_or widths slot 0) (following (even gap) edge (slot + 1) (drop (slot + 1) widths)))
+      ++ flat_map piece (strips_from (even gap) edge (slot + 1 + 1) (from + get_or widths slot 0 + gap) (drop (slot + 1) widths)))
+  strips_at slot from within = ap (λ sizes. flat_map piece (strips_from (even gap) edge (slot + 1) from sizes))
       (drop_more widths slot 0 within)
 
   module _ (is : IsSwept) where
@@ -105,15 +105,15 @@ module _ (kind : ℕ → Option ℕ) (places : List Place) (gap edge : ℕ) (wid
     slot_written : (text : List ℕ) (slot : ℕ) (before : Before text slot) → slot < length widths →
         text ≡ (before.written ++ piece (strip_with (slot + 1) (slot + 1) before.from (get_or widths slot 0)))
         ++ (piece (strip_with (slot + 1) (slot + 1 + 1) (before.from + get_or widths slot 0)
-        (following gap edge (drop (slot + 1) widths)))
-        ++ flat_map piece (strips_from gap edge (slot + 1 + 1) (before.from + get_or widths slot 0 + gap)
+        (following (even gap) edge (slot + 1) (drop (slot + 1) widths)))
+        ++ flat_map piece (strips_from (even gap) edge (slot + 1 + 1) (before.from + get_or widths slot 0 + gap)
         (drop (slot + 1) widths)))
     slot_written text slot before within =
         before.left ∙ ap (λ rest. before.written ++ rest) (strips_at slot before.from within)
         ∙ sym (append_assoc before.written (piece (strip_with (slot + 1) (slot + 1) before.from (get_or widths slot 0)))
         (piece (strip_with (slot + 1) (slot + 1 + 1) (before.from + get_or widths slot 0)
-        (following gap edge (drop (slot + 1) widths)))
-        ++ flat_map piece (strips_from gap edge (slot + 1 + 1) (before.from + get_or widths slot 0 + gap)
+        (following (even gap) edge (slot + 1) (drop (slot + 1) widths)))
+        ++ flat_map piece (strips_from (even gap) edge (slot + 1 + 1) (before.from + get_or widths slot 0 + gap)
         (drop (slot + 1) widths))))
 
     -- a cell that has not gone on into the slot begins there
@@ -196,23 +196,23 @@ module _ (kind : ℕ → Option ℕ) (places : List Place) (gap edge : ℕ) (wid
     -- ---- over a gap
 
     over : (text : List ℕ) (slot : ℕ) → After text slot → slot + 1 < length widths → Before text (slot + 1)
-    over text slot after more = elim (is.between (slot + 1) after.from (following gap edge (drop (slot + 1) widths))) [
+    over text slot after more = elim (is.between (slot + 1) after.from (following (even gap) edge (slot + 1) (drop (slot + 1) widths))) [
       | inl (one, apart) ↦ fresh one apart
       | inr (n, here, next, none) ↦ on n here next none
     ] where
-      size : following gap edge (drop (slot + 1) widths) ≡ gap
-      size = following-more gap edge widths (slot + 1) more
+      size : following (even gap) edge (slot + 1) (drop (slot + 1) widths) ≡ gap
+      size = following-more (even gap) edge (slot + 1) widths (slot + 1) more
 
       made : (width : ℕ) → TakesColumns (after.written ++ piece (strip_with (slot + 1) (slot + 1 + 1) after.from
-          (following gap edge (drop (slot + 1) widths)))) width → IsFresh (slot + 1) width ⊎ GoesOn (slot + 1) width →
+          (following (even gap) edge (slot + 1) (drop (slot + 1) widths)))) width → IsFresh (slot + 1) width ⊎ GoesOn (slot + 1) width →
           Before text (slot + 1)
       made width wide state = record {
         from = after.from + gap;
         written = after.written ++ piece (strip_with (slot + 1) (slot + 1 + 1) after.from
-            (following gap edge (drop (slot + 1) widths)));
+            (following (even gap) edge (slot + 1) (drop (slot + 1) widths)));
         left = after.left ∙ sym (append_assoc after.written (piece (strip_with (slot + 1) (slot + 1 + 1) after.from
-            (following gap edge (drop (slot + 1) widths))))
-            (flat_map piece (strips_from gap edge (slot + 1 + 1) (after.from + gap) (drop (slot + 1) widths))));
+            (following (even gap) edge (slot + 1) (drop (slot + 1) widths))))
+            (flat_map piece (strips_from (even gap) edge (slot + 1 + 1) (after.from + gap) (drop (slot + 1) widths))));
         width = width;
         wide = wide;
         state = state;
@@ -240,25 +240,25 @@ module _ (kind : ℕ → Option ℕ) (places : List Place) (gap edge : ℕ) (wid
             let same = same_Some lies.0 place (sym lies.1 ∙ at) in
             subst (λ (place : Place). slot + 1 ≤ place.right) same lies.3
 
-      fresh : IsDrawn (following gap edge (drop (slot + 1) widths)) (piece (strip_with (slot + 1) (slot + 1 + 1) after.from
-          (following gap edge (drop (slot + 1) widths)))) → ((n : ℕ) → kind (slot + 1) ≡ Some n → kind (slot + 1 + 1) ≡ Some n →
+      fresh : IsDrawn (following (even gap) edge (slot + 1) (drop (slot + 1) widths)) (piece (strip_with (slot + 1) (slot + 1 + 1) after.from
+          (following (even gap) edge (slot + 1) (drop (slot + 1) widths)))) → ((n : ℕ) → kind (slot + 1) ≡ Some n → kind (slot + 1 + 1) ≡ Some n →
           ⊥) →
           Before text (slot + 1)
       fresh drawn apart =
-          let wide = following gap edge (drop (slot + 1) widths) in
+          let wide = following (even gap) edge (slot + 1) (drop (slot + 1) widths) in
           let text = piece (strip_with (slot + 1) (slot + 1 + 1) after.from wide) in
           made (after.width + wide)
           (HasWidth-append after.written text after.width wide (after.width + wide) after.wide (drawn_width wide text drawn) refl)
           (inl (record { begins = omega (arith, after.all, ap (position gap widths) (ended apart), size); apart = apart }))
 
       on : (n : ℕ) → kind (slot + 1) ≡ Some n → kind (slot + 1 + 1) ≡ Some n →
-          piece (strip_with (slot + 1) (slot + 1 + 1) after.from (following gap edge (drop (slot + 1) widths))) ≡ [] →
+          piece (strip_with (slot + 1) (slot + 1 + 1) after.from (following (even gap) edge (slot + 1) (drop (slot + 1) widths))) ≡ [] →
           Before text (slot + 1)
       on n here next none =
           let lies = is.placed (slot + 1) n here in
           made after.width
           (HasWidth-same after.written (after.written ++ piece (strip_with (slot + 1) (slot + 1 + 1) after.from
-          (following gap edge (drop (slot + 1) widths)))) after.width after.wide
+          (following (even gap) edge (slot + 1) (drop (slot + 1) widths)))) after.width after.wide
           (sym (ap (λ more. after.written ++ more) none ∙ append-nil after.written)))
           (inr (record {
             number = n;
@@ -279,12 +279,12 @@ module _ (kind : ℕ → Option ℕ) (places : List Place) (gap edge : ℕ) (wid
 
     -- ---- the whole line
 
-    start : (size : ℕ) (sizes : List ℕ) → widths ≡ size ∷ sizes → Before (flat_map piece (strips gap edge widths)) 0
+    start : (size : ℕ) (sizes : List ℕ) → widths ≡ size ∷ sizes → Before (flat_map piece (strips (even gap) edge widths)) 0
     start size sizes some = record {
       from = edge;
       written = piece (strip_with 0 1 0 edge);
-      left = ap (λ list. flat_map piece (strips gap edge list)) some
-          ∙ ap (λ list. piece (strip_with 0 1 0 edge) ++ flat_map piece (strips_from gap edge 1 edge list)) (sym some);
+      left = ap (λ list. flat_map piece (strips (even gap) edge list)) some
+          ∙ ap (λ list. piece (strip_with 0 1 0 edge) ++ flat_map piece (strips_from (even gap) edge 1 edge list)) (sym some);
       width = edge;
       wide = drawn_width edge (piece (strip_with 0 1 0 edge)) drawn;
       state = inl (record { begins = omega arith; apart = λ n here next. nothing n here });
@@ -298,37 +298,37 @@ module _ (kind : ℕ → Option ℕ) (places : List Place) (gap edge : ℕ) (wid
         | inr (n, here, next, none) ↦ absurd (nothing n here)
       ]
 
-    pub before_slot : (slot : ℕ) → slot < length widths → Before (flat_map piece (strips gap edge widths)) slot
+    pub before_slot : (slot : ℕ) → slot < length widths → Before (flat_map piece (strips (even gap) edge widths)) slot
     before_slot zero within = begun widths refl where
-      begun : (sizes : List ℕ) → widths ≡ sizes → Before (flat_map piece (strips gap edge widths)) 0
+      begun : (sizes : List ℕ) → widths ≡ sizes → Before (flat_map piece (strips (even gap) edge widths)) 0
       begun [] none = absurd (omega (arith, ap length none, within))
       begun (size ∷ sizes) some = start size sizes some
     before_slot (suc slot) within =
         let next : slot + 1 ≡ suc slot = omega arith in
-        subst (Before (flat_map piece (strips gap edge widths))) next
-        (over (flat_map piece (strips gap edge widths)) slot
-        (through (flat_map piece (strips gap edge widths)) slot (before_slot slot (omega (arith, within)))
+        subst (Before (flat_map piece (strips (even gap) edge widths))) next
+        (over (flat_map piece (strips (even gap) edge widths)) slot
+        (through (flat_map piece (strips (even gap) edge widths)) slot (before_slot slot (omega (arith, within)))
         (omega (arith, within)))
         (omega (arith, within)))
 
     -- the content of a cell stands after all columns before the cell
     pub stands : (n : ℕ) (place : Place) → slice_get places n ≡ Some place → kind (place.left + 1) ≡ Some n →
         (before after : List ℕ) × TakesColumns before (edge + position gap widths place.left)
-        × (flat_map piece (strips gap edge widths) ≡ before ++ (content n ++ after))
+        × (flat_map piece (strips (even gap) edge widths) ≡ before ++ (content n ++ after))
     stands n place at here =
         let lies = is.placed (place.left + 1) n here in
         let same = same_Some lies.0 place (sym lies.1 ∙ at) in
         let right = subst (λ (place' : Place). place.left + 1 ≤ place'.right) same lies.3 in
         let within = subst (λ (place' : Place). place'.right ≤ length widths) same lies.4 in
         found (omega (arith, right, within)) (before_slot place.left (omega (arith, right, within))) where
-          found : place.left < length widths → Before (flat_map piece (strips gap edge widths)) place.left →
+          found : place.left < length widths → Before (flat_map piece (strips (even gap) edge widths)) place.left →
               (before after : List ℕ) × TakesColumns before (edge + position gap widths place.left)
-              × (flat_map piece (strips gap edge widths) ≡ before ++ (content n ++ after))
+              × (flat_map piece (strips (even gap) edge widths) ≡ before ++ (content n ++ after))
           found within before = elim before.state [
             | inl fresh ↦
                 let rest = piece (strip_with (place.left + 1) (place.left + 1 + 1) (before.from + get_or widths place.left 0)
-                (following gap edge (drop (place.left + 1) widths)))
-                ++ flat_map piece (strips_from gap edge (place.left + 1 + 1) (before.from + get_or widths place.left 0 + gap)
+                (following (even gap) edge (place.left + 1) (drop (place.left + 1) widths)))
+                ++ flat_map piece (strips_from (even gap) edge (place.left + 1 + 1) (before.from + get_or widths place.left 0 + gap)
                 (drop (place.left + 1) widths)) in (
                   before.written,
                   rest,
@@ -345,14 +345,14 @@ module _ (kind : ℕ → Option ℕ) (places : List Place) (gap edge : ℕ) (wid
           ]
 
     -- the line is as wide as all columns, with the gaps and both edges
-    last_line : (slot : ℕ) → slot + 1 ≡ length widths → After (flat_map piece (strips gap edge widths)) slot →
-        TakesColumns (flat_map piece (strips gap edge widths)) (total gap (2 * edge) widths)
+    last_line : (slot : ℕ) → slot + 1 ≡ length widths → After (flat_map piece (strips (even gap) edge widths)) slot →
+        TakesColumns (flat_map piece (strips (even gap) edge widths)) (total gap (2 * edge) widths)
     last_line slot end after =
         let none : drop (slot + 1) widths ≡ [] = drop_all (slot + 1) widths (omega (arith, end)) in
-        let beyond = λ (sizes : List ℕ). piece (strip_with (slot + 1) (slot + 1 + 1) after.from (following gap edge sizes))
-        ++ flat_map piece (strips_from gap edge (slot + 1 + 1) (after.from + gap) sizes) in
+        let beyond = λ (sizes : List ℕ). piece (strip_with (slot + 1) (slot + 1 + 1) after.from (following (even gap) edge (slot + 1) sizes))
+        ++ flat_map piece (strips_from (even gap) edge (slot + 1 + 1) (after.from + gap) sizes) in
         let text = piece (strip_with (slot + 1) (slot + 1 + 1) after.from edge) in
-        HasWidth-same (after.written ++ text) (flat_map piece (strips gap edge widths)) (total gap (2 * edge) widths)
+        HasWidth-same (after.written ++ text) (flat_map piece (strips (even gap) edge widths)) (total gap (2 * edge) widths)
         (HasWidth-append after.written text after.width edge (total gap (2 * edge) widths) after.wide (drawn_width edge text drawn)
         (omega (arith, after.all, ap (position gap widths) (past ∙ end), total-position gap (2 * edge) widths (omega (arith, end)))))
         (sym (after.left ∙ ap (λ sizes. after.written ++ beyond sizes) none ∙ ap (λ more. after.written ++ more)
@@ -375,13 +375,13 @@ module _ (kind : ℕ → Option ℕ) (places : List Place) (gap edge : ℕ) (wid
                 omega (arith, beyond, same, lies.3, lies.4, end)
           ]
 
-    pub whole_line : TakesColumns (flat_map piece (strips gap edge widths)) (total gap (2 * edge) widths)
+    pub whole_line : TakesColumns (flat_map piece (strips (even gap) edge widths)) (total gap (2 * edge) widths)
     whole_line = whole widths refl where
-      whole : (sizes : List ℕ) → widths ≡ sizes → TakesColumns (flat_map piece (strips gap edge widths)) (total gap (2 * edge) widths)
-      whole [] none = subst (λ (sizes : List ℕ). TakesColumns (flat_map piece (strips gap edge sizes)) (total gap (2 * edge) sizes))
+      whole : (sizes : List ℕ) → widths ≡ sizes → TakesColumns (flat_map piece (strips (even gap) edge widths)) (total gap (2 * edge) widths)
+      whole [] none = subst (λ (sizes : List ℕ). TakesColumns (flat_map piece (strips (even gap) edge sizes)) (total gap (2 * edge) sizes))
           (sym none) HasWidth-none
       whole (size ∷ sizes) some =
-          let text = flat_map piece (strips gap edge widths) in
+          let text = flat_map piece (strips (even gap) edge widths) in
           let end : length sizes + 1 ≡ length widths = omega (arith, ap length some) in
           last_line (length sizes) end (through text (length sizes) (before_slot (length sizes) (omega (arith, end)))
           (omega (arith, end)))

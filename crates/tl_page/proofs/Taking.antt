@@ -20,7 +20,7 @@ use Rattle.tl_table.specs.declared.cell.Content.TheOpen as open_content
 use Rattle.tl_table.specs.declared.cell.Table.{Table, out-Table}
 use Rattle.tl_table.specs.declared.cell.TableCell.{TableCell, out-TableCell}
 use Rattle.tl_table.specs.declared.layout.Layout.{Layout, out-Layout}
-use Rattle.tl_table.specs.Tables.{OpenCell, OpenContent}
+use Rattle.tl_table.specs.Tables.{OpenTable, OpenCell, OpenContent}
 use Rattle.tl_table.specs.Layouts.{OpenLayout, Share, FitsShare, FitsRoom, FitsCell, FitsBy, FitsWithin, total_width}
 use Rattle.tl_table.specs.Layouts.{total_height, width_for, height_for}
 use Rattle.tl_table.proofs.Deeper.{FitsShare-weaker, FitsRoom-weaker, FitsWithin-deeper, FitsWithin-deeper'}
@@ -287,20 +287,21 @@ blocks_taken-all style w h cell inner start i lines next floor low every sofar =
 -- ---- the cells of a table
 
 -- the first `i` cells fit, and whatever fits leaves the layouts from `next` on to the others
-pub record CellsTaken (style : Style) (layout : OpenLayout) (cells : List TableCell) (i next : ℕ) : Type 0 where
+pub record CellsTaken (style : Style) (table : OpenTable) (layout : OpenLayout) (i next : ℕ) : Type 0 where
   pub level : ℕ
   pub parts : List (List Layout)
-  pub fits : AllZip (λ cell given. FitsCell (FitsWithin level style) style layout (out-TableCell cell) given) (take i cells) parts
+  pub fits : AllZip (λ cell given. FitsCell (FitsWithin level style) style table layout (out-TableCell cell) given)
+      (take i table.cells) parts
   pub rest : flat_map (λ given. given) parts ++ drop next layout.inner ≡ layout.inner
   pub all : (level : ℕ) (parts : List (List Layout)) →
-      AllZip (λ cell given. FitsCell (FitsWithin level style) style layout (out-TableCell cell) given) cells parts →
+      AllZip (λ cell given. FitsCell (FitsWithin level style) style table layout (out-TableCell cell) given) table.cells parts →
       flat_map (λ given. given) parts ≡ layout.inner →
-      (left : List (List Layout)) × AllZip (λ cell given. FitsCell (FitsWithin level style) style layout (out-TableCell cell)
-      given) (drop i cells) left
+      (left : List (List Layout)) × AllZip (λ cell given. FitsCell (FitsWithin level style) style table layout (out-TableCell cell)
+      given) (drop i table.cells) left
       × (flat_map (λ given. given) left ≡ drop next layout.inner)
 
-pub cells_taken-none : (style : Style) (layout : OpenLayout) (cells : List TableCell) → CellsTaken style layout cells 0 0
-cells_taken-none style layout cells = record {
+pub cells_taken-none : (style : Style) (table : OpenTable) (layout : OpenLayout) → CellsTaken style table layout 0 0
+cells_taken-none style table layout = record {
   level = 0;
   parts = [];
   fits = tt;
@@ -308,39 +309,39 @@ cells_taken-none style layout cells = record {
   all = λ level parts fits split. (parts, fits, split);
 }
 
-module _ (style : Style) (layout : OpenLayout) where
-  pub cells_taken-more : (cells : List TableCell) (i next past : ℕ) (cell : TableCell) → i < length cells →
-      cell ≡ get_or cells i cell →
-      CellsTaken style layout cells i next →
-      TakesCell style (width_for style layout (out-TableCell cell).place) (height_for style layout (out-TableCell cell).place)
+module _ (style : Style) (table : OpenTable) (layout : OpenLayout) where
+  pub cells_taken-more : (i next past : ℕ) (cell : TableCell) → i < length table.cells →
+      cell ≡ get_or table.cells i cell →
+      CellsTaken style table layout i next →
+      TakesCell style (width_for style layout (out-TableCell cell).place) (height_for style table layout (out-TableCell cell).place)
       (out-TableCell cell)
-      layout.inner next (Some past) → CellsTaken style layout cells (i + 1) past
-  cells_taken-more cells i next past cell within is sofar takes =
+      layout.inner next (Some past) → CellsTaken style table layout (i + 1) past
+  cells_taken-more i next past cell within is sofar takes =
       let level = takes.fits.0 in
       let given = takes.fits.1 in
       let deep = level + sofar.level in
       let w = λ (cell : TableCell). width_for style layout (out-TableCell cell).place in
-      let h = λ (cell : TableCell). height_for style layout (out-TableCell cell).place in
-      let fit = λ (cell : TableCell) (given : List Layout). FitsCell (FitsWithin deep style) style layout (out-TableCell cell)
+      let h = λ (cell : TableCell). height_for style table layout (out-TableCell cell).place in
+      let fit = λ (cell : TableCell) (given : List Layout). FitsCell (FitsWithin deep style) style table layout (out-TableCell cell)
       given in
-      let others : AllZip fit (take i cells) sofar.parts =
-      AllZip-weaker (λ cell given. FitsCell (FitsWithin sofar.level style) style layout (out-TableCell cell) given) fit
-      (take i cells) sofar.parts
+      let others : AllZip fit (take i table.cells) sofar.parts =
+      AllZip-weaker (λ cell given. FitsCell (FitsWithin sofar.level style) style table layout (out-TableCell cell) given) fit
+      (take i table.cells) sofar.parts
       (λ cell given one. room-deeper level sofar.level style (w cell) (h cell) (out-TableCell cell) given one) sofar.fits in
       let this : fit cell given = room-deeper' sofar.level level style (w cell) (h cell) (out-TableCell cell)
       given takes.fits.2 in
       record {
         level = deep;
         parts = sofar.parts ++ given ∷ [];
-        fits = AllZip-taken fit cells sofar.parts i cell cell given within is others this;
+        fits = AllZip-taken fit table.cells sofar.parts i cell cell given within is others this;
         rest = ap (λ used. used ++ drop past layout.inner) (flat_map-push (λ (given : List Layout). given) sofar.parts given)
             ∙ one_further (flat_map (λ given. given) sofar.parts) given (drop past layout.inner) (drop next layout.inner)
             layout.inner
             takes.fits.3 sofar.rest;
         all = λ level parts fits split.
             let before = sofar.all level parts fits split in
-            let first = left_first (λ cell given. FitsCell (FitsWithin level style) style layout (out-TableCell cell) given)
-            cells i cell before.0 within is
+            let first = left_first (λ cell given. FitsCell (FitsWithin level style) style table layout (out-TableCell cell) given)
+            table.cells i cell before.0 within is
             before.1 in (
               first.1,
               first.4,
@@ -362,13 +363,13 @@ table-none style w table layout never = record { fits = tt; all = λ height fits
 
 pub cells_taken-stuck : (style : Style) (w : ℕ) (table : Table) (layout : Layout) (i next : ℕ) (cell : TableCell) →
     i < length (out-Table table).cells →
-    cell ≡ get_or (out-Table table).cells i cell → CellsTaken style (out-Layout layout) (out-Table table).cells i next →
+    cell ≡ get_or (out-Table table).cells i cell → CellsTaken style (out-Table table) (out-Layout layout) i next →
     TakesCell style (width_for style (out-Layout layout) (out-TableCell cell).place)
-    (height_for style (out-Layout layout) (out-TableCell cell).place)
+    (height_for style (out-Table table) (out-Layout layout) (out-TableCell cell).place)
     (out-TableCell cell) (out-Layout layout).inner next None → TakesTable style w table layout None
 cells_taken-stuck style w table layout i next cell within is sofar takes = table-none style w table layout (λ level height fits.
     let before = sofar.all level fits.parts fits.cells fits.given in
-    let first = left_first (λ cell given. FitsCell (FitsWithin level style) style (out-Layout layout) (out-TableCell cell)
+    let first = left_first (λ cell given. FitsCell (FitsWithin level style) style (out-Table table) (out-Layout layout) (out-TableCell cell)
     given) (out-Table table).cells i
     cell before.0 within is before.1 in
     takes.all level first.0 (flat_map (λ given. given) first.1) first.3 (ap (flat_map (λ given. given)) (sym first.2) ∙ before.2))
@@ -376,11 +377,11 @@ cells_taken-stuck style w table layout i next cell within is sofar takes = table
 -- layouts are left over
 pub cells_taken-over : (style : Style) (w : ℕ) (table : Table) (layout : Layout) (i next : ℕ) →
     length (out-Table table).cells ≤ i →
-    next < length (out-Layout layout).inner → CellsTaken style (out-Layout layout) (out-Table table).cells i next →
+    next < length (out-Layout layout).inner → CellsTaken style (out-Table table) (out-Layout layout) i next →
     TakesTable style w table layout None
 cells_taken-over style w table layout i next every over sofar = table-none style w table layout (λ level height fits.
     let before = sofar.all level fits.parts fits.cells fits.given in
-    let none = none_left (λ cell given. FitsCell (FitsWithin level style) style (out-Layout layout) (out-TableCell cell) given)
+    let none = none_left (λ cell given. FitsCell (FitsWithin level style) style (out-Table table) (out-Layout layout) (out-TableCell cell) given)
     (drop i (out-Table table).cells) before.0 (drop_all i (out-Table table).cells every) before.1 in
     let empty : [] ≡ drop next (out-Layout layout).inner = ap (flat_map (λ given. given)) (sym none) ∙ before.2 in
     omega (arith, ap length empty, length-drop next (out-Layout layout).inner, over))
@@ -389,8 +390,8 @@ pub cells_taken-all : (style : Style) (w : ℕ) (table : Table) (layout : Layout
     length (out-Layout layout).widths ≡ (out-Table table).cols →
     length (out-Layout layout).heights ≡ (out-Table table).rows → total_width style (out-Layout layout) ≤ w →
     length (out-Table table).cells ≤ i →
-    length (out-Layout layout).inner ≤ next → CellsTaken style (out-Layout layout) (out-Table table).cells i next →
-    TakesTable style w table layout (Some (total_height style (out-Layout layout)))
+    length (out-Layout layout).inner ≤ next → CellsTaken style (out-Table table) (out-Layout layout) i next →
+    TakesTable style w table layout (Some (total_height style (out-Table table) (out-Layout layout)))
 cells_taken-all style w table layout i next columns rows within every none sofar = record {
   fits = (
     suc sofar.level,
@@ -400,7 +401,7 @@ cells_taken-all style w table layout i next columns rows within every none sofar
       within = within;
       high = refl;
       parts = sofar.parts;
-      cells = subst (λ some. AllZip (λ cell given. FitsCell (FitsWithin sofar.level style) style (out-Layout layout)
+      cells = subst (λ some. AllZip (λ cell given. FitsCell (FitsWithin sofar.level style) style (out-Table table) (out-Layout layout)
           (out-TableCell cell) given) some
           sofar.parts) (take_all i (out-Table table).cells every) sofar.fits;
       given = sym (append-nil (flat_map (λ given. given) sofar.parts))
@@ -410,6 +411,6 @@ cells_taken-all style w table layout i next columns rows within every none sofar
   );
   all = λ height fits. high fits.0 height fits.1;
 } where
-  high : (depth height : ℕ) → FitsWithin depth style table w height layout → height ≡ total_height style (out-Layout layout)
+  high : (depth height : ℕ) → FitsWithin depth style table w height layout → height ≡ total_height style (out-Table table) (out-Layout layout)
   high zero height fits = absurd fits
   high (suc level) height fits = sym fits.high

@@ -1,5 +1,5 @@
 -- Trimming on small lines.
-use Rattle.std.proofs.Common.{◌≡◌, List, [], ◌∷◌, map, refl}
+use Rattle.std.proofs.Common.{◌≡◌, [], ◌∷◌, map, refl}
 use Rattle.std.specs.Prelude.{codes}
 use Rattle.tl_page.specs.Pages.{page_bytes}
 use Rattle.tl_page.specs.Trimmed.{trimmed}

@@ -8,7 +8,6 @@ use Rattle.std.proofs.lemmas.List.Concat.{flat_map-cons}
 use Rattle.std.proofs.lemmas.Option.{slice_get-map}
 use Rattle.tl_page.specs.Pages.{page_bytes}
 use Rattle.tl_page.specs.Pictures.{spaces}
-use Rattle.tl_page.specs.Standing.{TextStandsAt}
 use Rattle.tl_page.specs.Trimmed.{unless_last_space, trimmed, EndsInText}
 use Rattle.tl_page.specs.Trimmed.{TrimmingTakesSpaces, TrimmedLinesEndInText, TrimmingKeepsText, TrimmedLinesFillUp}
 use Rattle.tl_page.specs.Widths.{TakesColumns}

@@ -3,6 +3,7 @@
 use Rattle.std.specs.Prelude.{ℕ, ◌+◌, ◌&&◌, Bool, true, false, not, nat_lt, nat_le, ◌==◌, List, [], ◌∷◌, Option, Some, None}
 use Rattle.std.specs.Prelude.{if◌then◌else◌}
 use Rattle.tl_base.specs.declared.style.Style.{Style}
+use Rattle.tl_base.specs.declared.style.Style.TheVariants.{Rule, Apart}
 use Rattle.tl_grid.specs.declared.shape.Place.{Place}
 use Rattle.tl_page.specs.declared.corner.Corner.{Corner}
 use Rattle.tl_page.specs.declared.owner.Owner.{Owner}
@@ -28,13 +29,14 @@ abbrev pub owned : ℕ → ℕ → Option ℕ → Owner
 owned column row (Some number) = Cell number
 owned column row None = Bare column row
 
--- a grid: its columns, its rows, the places of its cells, and the last row of its head, counted from 1, if the line under
--- the head is drawn
+-- a grid: its columns, its rows, the places of its cells, the last row of its head, counted from 1, if the line under the
+-- head is drawn, and the row at which the head ends or, without a head, the caption
 pub record Grid : Type 0 where
   pub cols : ℕ
   pub rows : ℕ
   pub places : List Place
   pub head : Option ℕ
+  pub end : ℕ
 
 -- slot `slot` is one of `count`, counted from 1
 abbrev pub is_inside : ℕ → ℕ → Bool
@@ -75,6 +77,13 @@ is_one corner =
 abbrev pub is_under : Option ℕ → Strip → Bool
 is_under None down = false
 is_under (Some row) down = (down.before == row) && nat_lt row down.after
+
+-- the place where the two strips cross is on the line under the head; in styles rule and apart only inside a column, as the
+-- gaps stay blank
+abbrev pub is_on_line : Style → Option ℕ → Strip → Strip → Bool
+is_on_line Rule head across down = is_under head down && (across.before == across.after)
+is_on_line Apart head across down = is_under head down && (across.before == across.after)
+is_on_line style head across down = is_under head down
 
 -- the sign of a corner, which may be on the line under the head; a side is drawn where the two slots on both its sides differ
 abbrev pub corner_sign : Style → Bool → Corner → ℕ

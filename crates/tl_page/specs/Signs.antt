@@ -2,14 +2,14 @@
 -- that place on which a line is drawn: up, down, to the left and to the right of it. Fewer than two never are, since where a
 -- line parts two of the slots, another one does too. Signs are codes of characters; the page has them in UTF-8.
 --
---   frame    grid    box           the second line is the one under the head
+--   frame    grid    box      rule      the second line is the one under the head; in styles rule and apart it is the only one
 --   +-+-+    +-+-+   ┌─┬─┐
---   +-+-+    +=+=+   ╞═╪═╡
+--   +-+-+    +=+=+   ╞═╪═╡    - -
 --   +-+-+    +-+-+   └─┴─┘
 use Rattle.std.specs.Prelude.{ℕ, Bool, true, false, List, codes, replicate, encode_utf8_all}
 use Rattle.std.specs.List.{Contains}
 use Rattle.tl_base.specs.declared.style.Style.{Style}
-use Rattle.tl_base.specs.declared.style.Style.TheVariants.{Plain, Compact, Frame, Grid, Box}
+use Rattle.tl_base.specs.declared.style.Style.TheVariants.{Plain, Compact, Frame, Grid, Box, Rule, Apart}
 
 -- lines of `|` and `+`, and of `rule` from left to right
 abbrev pub ascii_sign : ℕ → Bool → Bool → Bool → Bool → ℕ
@@ -48,7 +48,7 @@ double_sign true true true true = 0x256A  -- ╪
 double_sign up down left right = 0x20
 
 -- the sign by the style, whether it stands on the line under the head, and its sides up, down, left and right; in styles
--- plain and compact all are spaces
+-- plain and compact all are spaces, and in styles rule and apart all that are not on that line
 abbrev pub sign : Style → Bool → Bool → Bool → Bool → Bool → ℕ
 sign Plain under up down left right = 0x20
 sign Compact under up down left right = 0x20
@@ -57,6 +57,10 @@ sign Grid false up down left right = ascii_sign 0x2D up down left right
 sign Grid true up down left right = ascii_sign 0x3D up down left right
 sign Box false up down left right = light_sign up down left right
 sign Box true up down left right = double_sign up down left right
+sign Rule false up down left right = 0x20
+sign Rule true up down left right = 0x2D
+sign Apart false up down left right = 0x20
+sign Apart true up down left right = 0x2D
 
 -- all signs, and the space
 abbrev pub signs : List ℕ

@@ -1,9 +1,9 @@
 -- A page without the spaces at the ends of its lines. It has as many lines, and each is the line of the page up to its last
 -- character that is no space.
 use Rattle.std.specs.Prelude.{◌≡◌, ◌≢◌, ℕ, ◌==◌, if◌then◌else◌, List, [], ◌∷◌, ◌++◌, map}
-use Rattle.tl_base.specs.declared.style.Style.{Style}
 use Rattle.tl_table.specs.declared.cell.Table.{Table}
 use Rattle.tl_table.specs.declared.layout.Layout.{Layout}
+use Rattle.tl_page.specs.declared.look.Look.{Look}
 use Rattle.tl_page.specs.Pages.{IsPage, page_bytes}
 use Rattle.tl_page.specs.Pictures.{spaces}
 use Rattle.tl_page.specs.Standing.{TextStandsAt}
@@ -20,9 +20,9 @@ trimmed [] = []
 trimmed (byte ∷ line) = unless_last_space byte (trimmed line)
 
 -- the bytes of the table's page in the layout, without the spaces at the ends of its lines
-abbrev pub IsTrimmedPage : Style → Table → Layout → List ℕ → Type 0
-IsTrimmedPage style table layout bytes =
-    (lines : List (List ℕ)) × IsPage style table layout lines × (bytes ≡ page_bytes (map trimmed lines))
+abbrev pub IsTrimmedPage : Look → Table → Layout → List ℕ → Type 0
+IsTrimmedPage look table layout bytes =
+    (lines : List (List ℕ)) × IsPage look table layout lines × (bytes ≡ page_bytes (map trimmed lines))
 
 -- ---- what trimming keeps
 

@@ -6,19 +6,20 @@ ghost use Rattle.tl_table.specs.declared.cell.Content.{out-Content};
 ghost use Rattle.tl_table.specs.declared.cell.Table.{out-Table};
 ghost use Rattle.tl_table.specs.declared.cell.TableCell.{out-TableCell};
 ghost use Rattle.tl_table.specs.declared.layout.Layout.{out-Layout};
-ghost use Rattle.tl_page.specs.Pages.{nested_lines};
-ghost use Rattle.tl_page.specs.Pictures.{lines_of};
+ghost use Rattle.tl_page.specs.Pages.{grid_of, nested_lines};
+ghost use Rattle.tl_page.specs.Pictures.{lines_of, lined_rows, row_gaps};
 ghost use Rattle.tl_page.specs.inner.Contents.{FitsPage, FitsCellRoom, FitsBlockRoom, ShowsPart, ShowsParts, ShowsCells, picture_with};
 
-use crate::head::head_row;
-use crate::line::{Drawn, Line};
+use crate::line::{Drawn, Line, Room};
+use crate::look::Look;
 use crate::owners::Owners;
 use crate::paragraph::put_paragraph;
 use crate::picture::{Drawing, draw};
+use crate::strip::{Gaps, Lined};
 use crate::strips::{begin_of, room_in, strips, total_in};
 use std::alloc::{AllocError, Global};
 use tl_base::{List, Style};
-use tl_table::{Content, Layout, Table, TableCell};
+use tl_table::{Content, Layout, Table, TableCell, head_end, head_row};
 
 /// The lines of a cell, and the number of the first layout of a nested table that it leaves.
 #[derive(Drop)]
@@ -32,26 +33,27 @@ pub struct Part {
 pub fn drawn_cells(
     alloc: Global,
     table: &Table,
-    style: Style,
+    look: &Look,
     layout: &Layout,
 ) -> Result<List<Drawn>, AllocError>
     requires sound { IsSound table.now }
-    requires fit { FitsPage style table.now layout.now }
-    ensures { IfOk result (ShowsCells style table.now layout.now) }
+    requires fit { FitsPage look.now.style table.now layout.now }
+    ensures { IfOk result (ShowsCells look.now table.now layout.now) }
 {
-    let across = strips(alloc, style.gap(), style.edge(), layout.widths.as_slice())?;
-    let down = strips(
-        alloc,
-        style.row_gap(),
-        style.edge(),
-        layout.heights.as_slice(),
-    )?;
+    let style = look.style;
+    let columns = Gaps::even(style.gap());
+    let across = strips(alloc, columns, style.edge(), layout.widths.as_slice())?;
+    let rows = row_gaps(table, style);
+    let down = strips(alloc, rows, style.edge(), layout.heights.as_slice())?;
     let mut cells = Vec::with_capacity(alloc, table.cells.len())?;
+    let sides = tl_align::sides(alloc, table, look.align)?;
     let mut next = 0;
-    for cell in table.cells.as_slice() {
+    for (at, cell) in table.cells.as_slice().iter().enumerate() {
         let place = cell.place;
         let columns = room_in(across.as_slice(), place.left, place.right);
-        let part = cell_part(alloc, cell, style, columns, layout.inner.as_slice(), next)?;
+        let side = sides.as_slice()[at];
+        let room = Room { columns, side };
+        let part = cell_part(alloc, cell, look, room, layout.inner.as_slice(), next)?;
         next = part.next;
         cells.push(Drawn {
             left: place.left,
@@ -63,26 +65,52 @@ pub fn drawn_cells(
     Ok(List::from_vec(cells))
 }
 
-/// The lines of a cell in a room of `width` columns. `next` is the number of the layout of its first
+/// How far the rows of the table stand apart.
+fn row_gaps(table: &Table, style: Style) -> Gaps
+    requires { IsSound table.now }
+    ensures { result ≡ row_gaps style (grid_of (out-Table table.now)) }
+{
+    Gaps {
+        between: style.row_gap(),
+        lined: lined_rows(style, head_row(table), head_end(table)),
+    }
+}
+
+/// The rows after which a line of its own stands, by the last row of the head, if the line under it is
+/// drawn, and the row at which the head ends.
+fn lined_rows(style: Style, head: Option<u32>, end: u32) -> Lined
+    requires { end < 2 ^ 31 }
+    ensures { result ≡ lined_rows style head end }
+{
+    match (style, head) {
+        (Style::Rule, Some(row)) => Lined::After(row),
+        (Style::Apart, Some(row)) => Lined::From(row),
+        (Style::Apart, None) => Lined::From(end + 1),
+        (Style::Rule, None)
+        | (Style::Plain | Style::Compact | Style::Frame | Style::Grid | Style::Box, _) => Lined::No,
+    }
+}
+
+/// The lines of a cell in its room. `next` is the number of the layout of its first
 /// nested table.
 #[cycle(cells)]
 fn cell_part(
     alloc: Global,
     cell: &TableCell,
-    style: Style,
-    width: u32,
+    look: &Look,
+    room: Room,
     inner: &[Layout],
     next: usize,
 ) -> Result<Part, AllocError>
     requires sound { IsSoundCell (out-TableCell cell.now) }
-    requires fit { FitsCellRoom style width (out-TableCell cell.now) inner.now next }
-    ensures { IfOk result (λ part. ShowsParts style width (out-TableCell cell.now) inner.now next part.next part.lines) }
+    requires fit { FitsCellRoom look.now.style room.columns (out-TableCell cell.now) inner.now next }
+    ensures { IfOk result (λ part. ShowsParts look.now room.side room.columns (out-TableCell cell.now) inner.now next part.next part.lines) }
 {
     // Most blocks are one line.
     let mut lines = List::from_vec(Vec::with_capacity(alloc, cell.blocks.len())?);
     let mut next = next;
     for block in cell.blocks.as_slice() {
-        next = put_block(alloc, &mut lines, block, style, width, inner, next)?;
+        next = put_block(alloc, &mut lines, block, look, room, inner, next)?;
     }
     Ok(Part { lines, next })
 }
@@ -93,23 +121,24 @@ fn put_block(
     alloc: Global,
     lines: &mut List<Line>,
     block: &Content,
-    style: Style,
-    width: u32,
+    look: &Look,
+    room: Room,
     inner: &[Layout],
     next: usize,
 ) -> Result<usize, AllocError>
     requires sound { IsSoundBlock (out-Content block.now) }
-    requires fit { FitsBlockRoom style width (out-Content block.now) inner.now next }
-    ensures { IfOk result (λ after. ShowsPart style width (out-Content block.now) inner.now next after lines.old lines.new) }
+    requires fit { FitsBlockRoom look.now.style room.columns (out-Content block.now) inner.now next }
+    ensures { IfOk result (λ after. ShowsPart look.now room.side room.columns (out-Content block.now) inner.now next after lines.old lines.new) }
 {
     match block {
         Content::Para(paragraph) => {
-            put_paragraph(alloc, lines, paragraph, width)?;
+            put_paragraph(alloc, lines, paragraph, room)?;
             Ok(next)
         }
         Content::Table(table) => {
+            let style = look.style;
             let layout = &inner[next];
-            let cells = drawn_cells(alloc, table, style, layout)?;
+            let cells = drawn_cells(alloc, table, look, layout)?;
             let page = page_with(alloc, table, style, layout, cells)?;
             put_page(alloc, lines, page, style, layout)?;
             Ok(next + 1)
@@ -129,17 +158,15 @@ pub fn page_with(
     requires fit { FitsPage style table.now layout.now }
     ensures { IfOk result (λ page. page ≡ lines_of (picture_with style (out-Table table.now) (out-Layout layout.now) cells)) }
 {
+    let head = head_row(table);
+    let columns = Gaps::even(style.gap());
+    let rows = row_gaps(table, style);
     let drawing = Drawing {
         style,
-        across: strips(alloc, style.gap(), style.edge(), layout.widths.as_slice())?,
-        down: strips(
-            alloc,
-            style.row_gap(),
-            style.edge(),
-            layout.heights.as_slice(),
-        )?,
+        across: strips(alloc, columns, style.edge(), layout.widths.as_slice())?,
+        down: strips(alloc, rows, style.edge(), layout.heights.as_slice())?,
         owners: Owners::new(alloc, table)?,
-        head: head_row(table),
+        head,
         cells,
     };
     draw(alloc, &drawing)
@@ -153,10 +180,11 @@ fn put_page(
     style: Style,
     layout: &Layout,
 ) -> Result<(), AllocError>
-    requires { sum (out-Layout layout.now).widths + 2 * length (out-Layout layout.now).widths < 2 ^ 31 }
+    requires { sum (out-Layout layout.now).widths + 3 * length (out-Layout layout.now).widths < 2 ^ 31 }
     ensures { OnOk result (lines.new ≡ lines.old ++ nested_lines style layout.now page) }
 {
-    let across = strips(alloc, style.gap(), style.edge(), layout.widths.as_slice())?;
+    let columns = Gaps::even(style.gap());
+    let across = strips(alloc, columns, style.edge(), layout.widths.as_slice())?;
     let width = total_in(across.as_slice(), style.edge());
     for text in page.into_vec() {
         lines.push(Line { text, width })?;

@@ -1,6 +1,7 @@
 //! The lines that stand in the cells of a page.
 
 use tl_base::List;
+use tl_sides::Side;
 
 /// A line of a cell's content.
 #[derive(Drop)]
@@ -9,6 +10,15 @@ pub struct Line {
     pub text: List<u8>,
     /// How many columns of the page it takes.
     pub width: u64,
+}
+
+/// Where the lines of a cell stand.
+#[derive(Clone, Copy)]
+pub struct Room {
+    /// How many columns of the page there are.
+    pub columns: u32,
+    /// On which side of them each line of a paragraph stands.
+    pub side: Side,
 }
 
 /// A cell that is to be drawn.

@@ -8,7 +8,7 @@ ghost use Rattle.tl_table.specs.declared.cell.TableCell.{out-TableCell};
 ghost use Rattle.tl_page.specs.inner.Taking.{TakesBlock, TakesCell, TakesTable};
 
 use tl_base::{MAX_HEIGHT, Style, room_size, total_size};
-use tl_table::{Content, Layout, Table, TableCell};
+use tl_table::{Content, Layout, Table, TableCell, head_end, lines_beside, lines_inside};
 use tl_text::count_lines;
 
 /// What a block takes of its cell.
@@ -35,11 +35,13 @@ fn height_in(table: &Table, style: Style, width: u32, layout: &Layout) -> Option
     if total_size(style.gap(), style.edges(), widths) > u64::from(width) {
         return None;
     }
+    let end = head_end(table);
     let mut next = 0;
     for cell in table.cells.as_slice() {
         let place = cell.place;
         let columns = room_size(style.gap(), widths, place.left, place.right);
-        let lines = room_size(style.row_gap(), heights, place.top, place.bottom);
+        let room = room_size(style.row_gap(), heights, place.top, place.bottom);
+        let lines = room + u64::from(lines_inside(place, style, end));
         let inner = layout.inner.as_slice();
         next = match past_cell(cell, style, columns as u32, lines, inner, next) {
             Some(past) => past,
@@ -49,7 +51,7 @@ fn height_in(table: &Table, style: Style, width: u32, layout: &Layout) -> Option
     if next < layout.inner.len() {
         return None;
     }
-    Some(total_size(style.row_gap(), style.edges(), heights))
+    Some(total_size(style.row_gap(), lines_beside(table, style), heights))
 }
 
 /// The number of the layout after those of a cell in a room of `width` columns and `height` lines, of
@@ -64,7 +66,7 @@ fn past_cell(
     next: usize,
 ) -> Option<usize>
     requires sound { IsSoundCell (out-TableCell cell.now) }
-    requires low { height < 2 ^ 45 }
+    requires low { height < 2 ^ 46 }
     ensures { TakesCell style width height (out-TableCell cell.now) inner.now next result }
 {
     if cell.least > width {

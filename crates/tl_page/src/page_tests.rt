@@ -3,11 +3,12 @@
 ghost use Rattle.std.specs.Prelude.{◌≡◌, ◌≤◌, IfOk, Some};
 ghost use Rattle.tl_table.specs.Sound.{IsSound};
 
-use crate::{fits, page};
+use crate::{Look, fits, page};
 use std::alloc::{AllocError, Global};
 use std::process::Abort;
 use std::test::Fail;
 use tl_base::{Breaking, List, MAX_FILE_BYTES, MAX_PAGE_WIDTH, Style};
+use tl_sides::{Align, Sides};
 use tl_table::{Layout, Table, table};
 use tl_token::tokens;
 use tl_tree::tree;
@@ -55,12 +56,20 @@ pub(crate) fn around(
     Ok(layout)
 }
 
+/// The look of a style with all lines at the left.
+pub(crate) fn at_left(style: Style) -> Look {
+    Look {
+        style,
+        align: Align::Columns(Sides::none()),
+    }
+}
+
 /// The page of a file's table in a layout, or why there is none.
-fn drawn(
+pub(crate) fn drawn(
     alloc: Global,
     file: &str,
     breaking: Breaking,
-    style: Style,
+    look: Look,
     width: u32,
     layout: &Layout,
 ) -> Result<List<u8>, AllocError>
@@ -69,8 +78,8 @@ fn drawn(
     let Some(formed) = table_of(alloc, file, breaking)? else {
         return List::from_slice(alloc, b"no table");
     };
-    if fits(&formed, style, width, layout) {
-        return page(alloc, &formed, style, layout);
+    if fits(&formed, look.style, width, layout) {
+        return page(alloc, &formed, look, layout);
     }
     List::from_slice(alloc, b"does not fit")
 }
@@ -87,7 +96,7 @@ fn flat(
     requires { width ≤ MAX_PAGE_WIDTH }
 {
     let layout = layout(alloc, widths, heights)?;
-    drawn(alloc, file, Breaking::Words, style, width, &layout)
+    drawn(alloc, file, Breaking::Words, at_left(style), width, &layout)
 }
 
 /// Compares the page of a file's table in a layout with a text.
@@ -103,7 +112,7 @@ pub(crate) fn draws_in(
 ) -> Result<(), Fail>
     requires { width ≤ MAX_PAGE_WIDTH }
 {
-    let bytes = drawn(alloc, file, breaking, style, width, &layout)?;
+    let bytes = drawn(alloc, file, breaking, at_left(style), width, &layout)?;
     assert_eq!(rt; bytes.as_slice(), want.as_bytes());
     Ok(())
 }

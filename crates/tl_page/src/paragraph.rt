@@ -1,42 +1,79 @@
 //! The lines of a paragraph in a cell.
 
-ghost use Rattle.std.specs.Prelude.{◌≡◌, ◌+◌, ◌*◌, ◌≤◌, ◌++◌, List, length, encode_utf8_all, OnOk, IfOk};
+ghost use Rattle.std.specs.Prelude.{◌≡◌, ◌+◌, ◌-◌, ◌*◌, ◌≤◌, ◌++◌, List, length, map, encode_utf8_all, OnOk, IfOk};
 ghost use Rattle.std.specs.List.{All};
 ghost use Rattle.tl_base.specs.Text.{byte_count};
 ghost use Rattle.tl_page.specs.declared.line.Line.{Line as Shown};
 ghost use Rattle.tl_text.specs.Cuttings.{line_width, HasCutting};
 ghost use Rattle.tl_text.specs.Paragraph.{unit_width, atom_size};
 ghost use Rattle.tl_text.specs.Words.{width_of};
-ghost use Rattle.tl_page.specs.Pages.{AreParagraphLines, line_from, line_text, text_of};
+ghost use Rattle.tl_page.specs.Pages.{AreParagraphLines, aligned, indent, line_from, line_text, text_of};
 ghost use Rattle.tl_page.specs.Pictures.{spaces};
 ghost use Rattle.tl_page.specs.inner.Lines.{gap_in_line, ranged};
 
-use crate::line::Line;
+use crate::line::{Line, Room};
+use crate::picture::write_spaces;
 use std::alloc::{AllocError, Global};
 use tl_base::{List, MAX_FILE_BYTES, Text};
+use tl_sides::Side;
 use tl_text::{Atom, Para, TextError, word_width};
 
-/// Puts the lines of a paragraph's greedy cutting, which are the fewest, after others.
+/// Puts the lines of a paragraph's greedy cutting, which are the fewest, after others, each at its side
+/// of the room.
 pub fn put_paragraph(
     alloc: Global,
     lines: &mut List<Line>,
     paragraph: &Para,
-    width: u32,
+    room: Room,
 ) -> Result<(), AllocError>
-    requires fit { HasCutting width paragraph.now }
-    ensures { OnOk result ((more : List Shown) × AreParagraphLines width paragraph.now more × (lines.new ≡ lines.old ++ more)) }
+    requires fit { HasCutting room.columns paragraph.now }
+    ensures { OnOk result ((more : List Shown) × AreParagraphLines room.columns paragraph.now more
+        × (lines.new ≡ lines.old ++ map (aligned room.side room.columns) more)) }
 {
-    let ranges = match tl_text::lines(alloc, paragraph, width) {
+    let ranges = match tl_text::lines(alloc, paragraph, room.columns) {
         Ok(ranges) => ranges,
         Err(TextError::Memory(error)) => return Err(error),
-        // The paragraph has a cutting in the width, so that no unit is wider.
+        // The paragraph has a cutting in the room, so that no unit is wider.
         Err(TextError::TooWide(_)) => unreachable!(),
     };
     let atoms = paragraph.atoms();
     for range in ranges.as_slice() {
-        lines.push(line_of(alloc, units_of(atoms, *range))?)?;
+        let line = line_of(alloc, units_of(atoms, *range))?;
+        lines.push(aligned(alloc, line, room)?)?;
     }
     Ok(())
+}
+
+/// The line with the spaces before it that bring it to its side of the room. One that needs none stays
+/// as it is.
+fn aligned(alloc: Global, line: Line, room: Room) -> Result<Line, AllocError>
+    ensures { IfOk result (λ moved. moved ≡ aligned room.side room.columns line) }
+{
+    let before = indent(room, line.width);
+    if before == 0 {
+        return Ok(line);
+    }
+    let mut text = List::new(alloc);
+    write_spaces(&mut text, before)?;
+    text.extend_from_slice(line.text.as_slice())?;
+    Ok(Line {
+        text,
+        width: before + line.width,
+    })
+}
+
+/// How many spaces bring a line of `width` columns to its side of the room. In the middle the odd column
+/// is left after the line.
+fn indent(room: Room, width: u64) -> u64
+    ensures spaces { result ≡ indent room.side room.columns width }
+    ensures few { result ≤ room.columns - width }
+{
+    let free = u64::from(room.columns).saturating_sub(width);
+    match room.side {
+        Side::Left => 0,
+        Side::Right => free,
+        Side::Center => free / 2,
+    }
 }
 
 /// Lends the atoms of a line.

@@ -1,7 +1,7 @@
 //! Writes the lines of a picture, each from left to right.
 
 ghost use Rattle.std.specs.Prelude.{◌≡◌, ◌+◌, ◌++◌, slice_get, OnOk, IfOk, ◌&&◌, ◌==◌};
-ghost use Rattle.tl_page.specs.Corners.{corner_of, is_under};
+ghost use Rattle.tl_page.specs.Corners.{corner_of, is_on_line, is_under};
 ghost use Rattle.tl_page.specs.Pictures.{filled, inside, inside_cell, piece, picture_line, spaces, strip_lines, lines_of};
 ghost use Rattle.tl_page.specs.Signs.{run};
 ghost use Rattle.tl_page.specs.inner.Drawing.{owner_in, shown};
@@ -24,7 +24,7 @@ pub struct Drawing {
     pub down: List<Strip>,
     /// Who owns each slot.
     pub owners: Owners,
-    /// The last row of the head, counted from 1, if the line under it is drawn.
+    /// The last row of the head, counted from 1, where the line under it may be drawn.
     pub head: Option<u32>,
     /// The cells by their numbers.
     pub cells: List<Drawn>,
@@ -43,7 +43,7 @@ fn corner_at(owners: &Owners, across: &Strip, down: &Strip) -> Corner
 }
 
 /// Writes so many spaces.
-fn write_spaces(line: &mut List<u8>, count: u64) -> Result<(), AllocError>
+pub fn write_spaces(line: &mut List<u8>, count: u64) -> Result<(), AllocError>
     ensures { OnOk result (line.new ≡ line.old ++ spaces count) }
 {
     for _ in 0..count {
@@ -71,6 +71,19 @@ fn is_under(head: Option<u32>, down: &Strip) -> bool
     match head {
         Some(row) => down.before == row && row < down.after,
         None => false,
+    }
+}
+
+/// Whether the place where two strips cross is on the line under the head. In styles rule and apart the
+/// gaps between the columns stay blank.
+fn is_on_line(style: Style, head: Option<u32>, across: &Strip, down: &Strip) -> bool
+    ensures { result ≡ is_on_line style head across.now down.now }
+{
+    match style {
+        Style::Rule | Style::Apart => is_under(head, down) && across.before == across.after,
+        Style::Plain | Style::Compact | Style::Frame | Style::Grid | Style::Box => {
+            is_under(head, down)
+        }
     }
 }
 
@@ -141,7 +154,8 @@ fn write_piece(
     if corner.is_one() {
         write_inside(line, drawing.cells.as_slice(), corner.up_left, across, y)
     } else {
-        let sign = corner.sign(drawing.style, is_under(drawing.head, down));
+        let on_line = is_on_line(drawing.style, drawing.head, across, down);
+        let sign = corner.sign(drawing.style, on_line);
         write_run(line, sign, u64::from(across.size))
     }
 }

@@ -10,7 +10,8 @@ pub fn sign_of(style: Style, under: bool, up: bool, down: bool, left: bool, righ
     ensures { result ≡ sign style under up down left right }
 {
     match (style, under) {
-        (Style::Plain | Style::Compact, _) => ' ',
+        (Style::Plain | Style::Compact, _) | (Style::Rule | Style::Apart, false) => ' ',
+        (Style::Rule | Style::Apart, true) => '-',
         (Style::Grid, true) => ascii_sign('=', up, down, left, right),
         (Style::Frame | Style::Grid, _) => ascii_sign('-', up, down, left, right),
         (Style::Box, false) => light_sign(up, down, left, right),

@@ -1,19 +1,25 @@
 //! Cuts a page into strips along one axis.
 
 ghost use Rattle.std.specs.Prelude.{◌≡◌, ◌+◌, ◌*◌, ◌<◌, ◌≤◌, ◌^◌, length, sum, get_or, ℕ, List, [], ◌∷◌, ◌++◌, IfOk, OnOk};
-ghost use Rattle.tl_base.specs.Sizes.{position, room, total};
-ghost use Rattle.tl_page.specs.Strips.{strips as page_strips};
+ghost use Rattle.tl_base.specs.Sizes.{room, total};
+ghost use Rattle.tl_page.specs.Strips.{begin_in, even, strips as page_strips};
+ghost use Rattle.tl_page.specs.declared.strip.Gaps.{Gaps};
 
-use crate::strip::Strip;
+use crate::strip::{Gaps, Strip};
 use std::alloc::{AllocError, Global};
 use tl_base::List;
 
 /// The strips of these sizes, with a gap between two and an edge on both sides.
-pub fn strips(alloc: Global, gap: u32, edge: u32, sizes: &[u32]) -> Result<List<Strip>, AllocError>
-    requires gap { gap ≤ 2 }
+pub fn strips(
+    alloc: Global,
+    gaps: Gaps,
+    edge: u32,
+    sizes: &[u32],
+) -> Result<List<Strip>, AllocError>
+    requires gap { gaps.between ≤ 2 }
     requires edge { edge ≤ 1 }
-    requires room { sum sizes.now + 2 * length sizes.now < 2 ^ 31 }
-    ensures { IfOk result (λ list. list ≡ page_strips gap edge sizes.now) }
+    requires room { sum sizes.now + 3 * length sizes.now < 2 ^ 31 }
+    ensures { IfOk result (λ list. list ≡ page_strips gaps edge sizes.now) }
 {
     let mut list = List::new(alloc);
     if sizes.is_empty() {
@@ -28,6 +34,7 @@ pub fn strips(alloc: Global, gap: u32, edge: u32, sizes: &[u32]) -> Result<List<
     let mut from = edge;
     let mut slot = 1;
     for size in sizes {
+        let gap = gaps.after(slot);
         let after = if slot as usize == sizes.len() {
             edge
         } else {
@@ -71,15 +78,15 @@ fn push_both(
 
 /// Where the slot of this number begins, counted from 0.
 pub fn begin_of(strips: &[Strip], place: u32) -> u32
-    ensures { (gap edge : ℕ) → (sizes : List ℕ) → strips.now ≡ page_strips gap edge sizes → place < length sizes
-        → result ≡ edge + position gap sizes place }
+    ensures { (gaps : Gaps) → (edge : ℕ) → (sizes : List ℕ) → strips.now ≡ page_strips gaps edge sizes → place < length sizes
+        → result ≡ edge + begin_in gaps sizes place }
 {
     strip_at(strips, 2 * u64::from(place) + 1).from
 }
 
-/// The room of a span of slots, with the gaps between them.
+/// The room of a span of slots, with the gaps between them, where all gaps are the same.
 pub fn room_in(strips: &[Strip], from: u32, past: u32) -> u32
-    ensures { (gap edge : ℕ) → (sizes : List ℕ) → strips.now ≡ page_strips gap edge sizes → from < past → past ≤ length sizes
+    ensures { (gap edge : ℕ) → (sizes : List ℕ) → strips.now ≡ page_strips (even gap) edge sizes → from < past → past ≤ length sizes
         → result ≡ room gap sizes from past }
 {
     let begin = strip_at(strips, 2 * u64::from(from) + 1).from;
@@ -87,9 +94,9 @@ pub fn room_in(strips: &[Strip], from: u32, past: u32) -> u32
     end.saturating_sub(begin)
 }
 
-/// How much all slots take, with an edge on both sides.
+/// How much all slots take, with an edge on both sides, where all gaps are the same.
 pub fn total_in(strips: &[Strip], edge: u32) -> u64
-    ensures { (gap : ℕ) → (sizes : List ℕ) → strips.now ≡ page_strips gap edge sizes → result ≡ total gap (2 * edge) sizes }
+    ensures { (gap : ℕ) → (sizes : List ℕ) → strips.now ≡ page_strips (even gap) edge sizes → result ≡ total gap (2 * edge) sizes }
 {
     if strips.is_empty() {
         return 0;

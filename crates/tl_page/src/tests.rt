@@ -1,14 +1,16 @@
 //! Pages drawn by hand.
 
-use crate::line::{Drawn, Line};
+use crate::line::{Drawn, Line, Room};
 use crate::owners::Owners;
 use crate::paragraph::put_paragraph;
 use crate::picture::{Drawing, draw};
+use crate::strip::Gaps;
 use crate::strips::strips;
 use std::alloc::{AllocError, Global};
 use std::process::Abort;
 use std::test::Fail;
 use tl_base::{List, Style};
+use tl_sides::Side;
 use tl_text::{Atom, Para, least_width, words};
 
 /// A cell with one line of text, each of whose characters takes a column.
@@ -62,8 +64,8 @@ fn spans(alloc: Global, style: Style) -> Result<Drawing, AllocError> {
     let edge = style.edge();
     Ok(Drawing {
         style,
-        across: strips(alloc, style.gap(), edge, &[1, 1, 1, 1])?,
-        down: strips(alloc, style.row_gap(), edge, &[1, 1, 1, 1])?,
+        across: strips(alloc, Gaps::even(style.gap()), edge, &[1, 1, 1, 1])?,
+        down: strips(alloc, Gaps::even(style.row_gap()), edge, &[1, 1, 1, 1])?,
         owners: Owners {
             cols: 4,
             rows: 4,
@@ -130,7 +132,11 @@ fn paragraph(alloc: Global, text: &str) -> Result<Para, Fail> {
 /// The lines of a paragraph that is cut in the width of its widest word, each with its width.
 fn shown(alloc: Global, paragraph: &Para) -> Result<List<u8>, AllocError> {
     let mut lines = List::new(alloc);
-    put_paragraph(alloc, &mut lines, paragraph, least_width(paragraph))?;
+    let room = Room {
+        columns: least_width(paragraph),
+        side: Side::Left,
+    };
+    put_paragraph(alloc, &mut lines, paragraph, room)?;
     let mut shown = List::new(alloc);
     for line in lines.as_slice() {
         shown.extend_from_slice(line.text.as_slice())?;

@@ -7,9 +7,10 @@ ghost use Rattle.tl_page.specs.Trimmed.{IsTrimmedPage, trimmed};
 ghost use Rattle.tl_page.specs.Trimmed.{TrimmingTakesSpaces, TrimmedLinesEndInText, TrimmingKeepsText, TrimmedLinesFillUp};
 
 use crate::cells::{drawn_cells, page_with};
+use crate::look::Look;
 use crate::pages::put_line;
 use std::alloc::{AllocError, Global};
-use tl_base::{List, MAX_HEIGHT, MAX_PAGE_WIDTH, Style};
+use tl_base::{List, MAX_HEIGHT, MAX_PAGE_WIDTH};
 use tl_table::{Layout, Table};
 
 /// The text page of a table in a layout that fits a page, as [`crate::page`] writes it, without the spaces at
@@ -17,15 +18,15 @@ use tl_table::{Layout, Table};
 pub fn trimmed_page(
     alloc: Global,
     table: &Table,
-    style: Style,
+    look: Look,
     layout: &Layout,
 ) -> Result<List<u8>, AllocError>
     requires sound { IsSound table.now }
-    requires fit { (width height : ℕ) × (width ≤ MAX_PAGE_WIDTH) × (height ≤ MAX_HEIGHT) × Fits table.now style width height layout.now }
-    ensures { IfOk result (IsTrimmedPage style table.now layout.now) }
+    requires fit { (width height : ℕ) × (width ≤ MAX_PAGE_WIDTH) × (height ≤ MAX_HEIGHT) × Fits table.now look.style width height layout.now }
+    ensures { IfOk result (IsTrimmedPage look table.now layout.now) }
 {
-    let cells = drawn_cells(alloc, table, style, layout)?;
-    let lines = page_with(alloc, table, style, layout, cells)?;
+    let cells = drawn_cells(alloc, table, &look, layout)?;
+    let lines = page_with(alloc, table, look.style, layout, cells)?;
     let mut bytes = List::new(alloc);
     for line in lines.as_slice() {
         put_line(&mut bytes, trimmed(line.as_slice()))?;

@@ -1,11 +1,12 @@
 //! Pages without the spaces at the ends of their lines, drawn by hand.
 
-use crate::page_tests::{layout, table_of};
-use crate::{fits, page, trimmed_page};
+use crate::page_tests::{at_left, drawn, layout, table_of};
+use crate::{Look, fits, trimmed_page};
 use std::alloc::{AllocError, Global};
 use std::process::Abort;
 use std::test::Fail;
 use tl_base::{Breaking, List, MAX_PAGE_WIDTH, Style};
+use tl_table::Layout;
 
 /// A file without nested tables, the sizes of its columns and rows, and its page as it is and trimmed.
 #[derive(Clone, Copy)]
@@ -18,29 +19,33 @@ struct Case<'a> {
     trimmed: &'a str,
 }
 
-/// The page of the case as it is and trimmed, if it has one.
-fn pages_of(alloc: Global, case: &Case<'_>) -> Result<Option<(List<u8>, List<u8>)>, AllocError> {
-    let Some(formed) = table_of(alloc, case.file, Breaking::Words)? else {
-        return Ok(None);
+/// The trimmed page of a file's table in a layout, or why there is none.
+fn trimmed(alloc: Global, file: &str, look: Look, layout: &Layout) -> Result<List<u8>, AllocError> {
+    let Some(formed) = table_of(alloc, file, Breaking::Words)? else {
+        return List::from_slice(alloc, b"no table");
     };
-    let layout = layout(alloc, case.widths, case.heights)?;
-    if !fits(&formed, case.style, MAX_PAGE_WIDTH, &layout) {
-        return Ok(None);
+    if fits(&formed, look.style, MAX_PAGE_WIDTH, layout) {
+        return trimmed_page(alloc, &formed, look, layout);
     }
-    let whole = page(alloc, &formed, case.style, &layout)?;
-    let trimmed = trimmed_page(alloc, &formed, case.style, &layout)?;
-    Ok(Some((whole, trimmed)))
+    List::from_slice(alloc, b"does not fit")
 }
 
 /// The case has these pages.
 fn trims(rt: &(impl Abort + AllocGlobal), case: &Case<'_>) -> Result<(), Fail> {
-    match pages_of(rt.alloc(), case)? {
-        Some((whole, trimmed)) => {
-            assert_eq!(rt; whole.as_slice(), case.whole.as_bytes());
-            assert_eq!(rt; trimmed.as_slice(), case.trimmed.as_bytes());
-        }
-        None => assert!(rt; false, "the table has no such page"),
-    }
+    let alloc = rt.alloc();
+    let layout = layout(alloc, case.widths, case.heights)?;
+    let words = Breaking::Words;
+    let whole = drawn(
+        alloc,
+        case.file,
+        words,
+        at_left(case.style),
+        MAX_PAGE_WIDTH,
+        &layout,
+    )?;
+    assert_eq!(rt; whole.as_slice(), case.whole.as_bytes());
+    let short = trimmed(alloc, case.file, at_left(case.style), &layout)?;
+    assert_eq!(rt; short.as_slice(), case.trimmed.as_bytes());
     Ok(())
 }
 

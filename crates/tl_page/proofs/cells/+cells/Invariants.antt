@@ -14,8 +14,8 @@ abbrev pub decreases-drawn_cells : goal.decreases-drawn_cells
 decreases-drawn_cells l = goal.size-drawn_cells l
 
 abbrev pub invariant-cell_part-loop-block : goal.invariant-cell_part-loop-block
-invariant-cell_part-loop-block l = BlocksSoFar l.style l.width l.cell.blocks l.inner l.fn.next l.block-index l.next l.lines
+invariant-cell_part-loop-block l = BlocksSoFar l.look l.room.side l.room.columns l.cell.blocks l.inner l.fn.next l.block-index l.next l.lines
 
-abbrev pub invariant-drawn_cells-loop-cell : goal.invariant-drawn_cells-loop-cell
-invariant-drawn_cells-loop-cell l =
-    CellsSoFar l.style (out-Table l.table) (out-Layout l.layout) l.cell-index l.next l.cells.items
+abbrev pub invariant-drawn_cells-loop-at : goal.invariant-drawn_cells-loop-at
+invariant-drawn_cells-loop-at l =
+    CellsSoFar l.look (out-Table l.table) (out-Layout l.layout) l.at l.next l.cells.items

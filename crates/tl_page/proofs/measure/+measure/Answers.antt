@@ -10,7 +10,7 @@ use Rattle.tl_table.specs.declared.cell.Table.{out-Table}
 use Rattle.tl_table.specs.declared.cell.TableCell.{out-TableCell}
 use Rattle.tl_table.specs.declared.layout.Layout.{out-Layout}
 use Rattle.tl_table.specs.Sound.{IsSoundBlock, IsSoundCell, place_of}
-use Rattle.tl_table.specs.Layouts.{width_for, height_for}
+use Rattle.tl_table.specs.Layouts.{lines_of, width_for, height_for}
 use Rattle.tl_table.proofs.SoundParts.{sound_cells, sound_blocks, at_item}
 use Rattle.tl_page.specs.inner.Taking.{TakesBlock, TakesCell, TakesTable}
 use Rattle.tl_page.proofs.Taking.{paragraph-takes, paragraph-too-wide, nested-takes, nested-fits-none, blocks_taken-none}
@@ -148,16 +148,16 @@ height_in-room_size-columns-requires-clause-within t c =
     c.as_slice-cell-items.ensures c.cell-item.is) in
     omega (arith, placed.1, c.if-widths-table.false)
 
-pub height_in-room_size-lines-requires-clause-ahead : goal.height_in-room_size-lines-requires-clause-ahead
-height_in-room_size-lines-requires-clause-ahead t c =
+pub height_in-room_size-room-requires-clause-ahead : goal.height_in-room_size-room-requires-clause-ahead
+height_in-room_size-room-requires-clause-ahead t c =
     (placed_cell (out-Table c.args.table.now) c.loop-cell.cell-index c.cell-item.result
     (sound_table c.args.table.now c.requires.sound).placed
     (subst (λ items. c.loop-cell.cell-index < length items) c.as_slice-cell-items.ensures c.loop-cell-test.true)
     (subst (λ items. c.cell-item.result ≡ get_or items c.loop-cell.cell-index c.cell-item.result)
     c.as_slice-cell-items.ensures c.cell-item.is)).2
 
-pub height_in-room_size-lines-requires-clause-within : goal.height_in-room_size-lines-requires-clause-within
-height_in-room_size-lines-requires-clause-within t c =
+pub height_in-room_size-room-requires-clause-within : goal.height_in-room_size-room-requires-clause-within
+height_in-room_size-room-requires-clause-within t c =
     let placed = placed_cell (out-Table c.args.table.now) c.loop-cell.cell-index c.cell-item.result
     (sound_table c.args.table.now c.requires.sound).placed
     (subst (λ items. c.loop-cell.cell-index < length items) c.as_slice-cell-items.ensures c.loop-cell-test.true)
@@ -165,9 +165,17 @@ height_in-room_size-lines-requires-clause-within t c =
     c.as_slice-cell-items.ensures c.cell-item.is) in
     omega (arith, placed.3, c.if-heights-table.false)
 
-pub height_in-room_size-lines-requires-clause-few : goal.height_in-room_size-lines-requires-clause-few
-height_in-room_size-lines-requires-clause-few t c =
+pub height_in-room_size-room-requires-clause-few : goal.height_in-room_size-room-requires-clause-few
+height_in-room_size-room-requires-clause-few t c =
     omega (arith, (sound_table c.args.table.now c.requires.sound).few_rows, c.if-heights-table.false)
+
+pub height_in-lines_inside-requires : goal.height_in-lines_inside-requires
+height_in-lines_inside-requires t c =
+    (placed_cell (out-Table c.args.table.now) c.loop-cell.cell-index c.cell-item.result
+    (sound_table c.args.table.now c.requires.sound).placed
+    (subst (λ items. c.loop-cell.cell-index < length items) c.as_slice-cell-items.ensures c.loop-cell-test.true)
+    (subst (λ items. c.cell-item.result ≡ get_or items c.loop-cell.cell-index c.cell-item.result)
+    c.as_slice-cell-items.ensures c.cell-item.is)).2
 
 pub height_in-overflow_cast-columns : goal.height_in-overflow_cast-columns
 height_in-overflow_cast-columns t c =
@@ -202,7 +210,7 @@ height_in-past_cell-requires t c = (
         (subst (λ items. c.loop-cell.cell-index < length items) c.as_slice-cell-items.ensures c.loop-cell-test.true)
         (subst (λ items. c.cell-item.result ≡ get_or items c.loop-cell.cell-index c.cell-item.result)
         c.as_slice-cell-items.ensures c.cell-item.is),
-    c.room_size-lines.ensures.small,
+    omega (arith, c.room_size-room.ensures.small),
   ),
 )
 
@@ -214,9 +222,11 @@ height_in-returns-in-None-clause-takes t c =
     c.room_size-columns.ensures.room ∙ ap₂ (λ (gap : ℕ) (sizes : List ℕ). room gap sizes place.left place.right)
     c.gap-in-loop-cell.ensures
     c.as_slice-widths.ensures in
-    let lines : c.room_size-lines.result ≡ height_for c.args.style layout place =
-    c.room_size-lines.ensures.room ∙ ap₂ (λ (gap : ℕ) (sizes : List ℕ). room gap sizes place.top place.bottom)
-    c.row_gap.ensures c.as_slice-heights.ensures in
+    let lines : c.room_size-room.result + c.from-in-loop-cell.result ≡ height_for c.args.style (out-Table c.args.table.now) layout place =
+    ap₂ (λ (room inside : ℕ). room + inside)
+    (c.room_size-room.ensures.room ∙ ap₂ (λ (gap : ℕ) (sizes : List ℕ). room gap sizes place.top place.bottom)
+    c.row_gap.ensures c.as_slice-heights.ensures)
+    (c.from-in-loop-cell.ensures ∙ c.lines_inside.ensures (out-Table c.args.table.now) (sym c.head_end-end.ensures)) in
     cells_taken-stuck c.args.style c.args.width c.args.table.now c.args.layout.now c.loop-cell.cell-index c.loop-cell.next
     c.cell-item.result
     (subst (λ items. c.loop-cell.cell-index < length items) c.as_slice-cell-items.ensures c.loop-cell-test.true)
@@ -224,12 +234,12 @@ height_in-returns-in-None-clause-takes t c =
     c.as_slice-cell-items.ensures c.cell-item.is)
     c.loop-cell.invariant
     (subst
-    (λ (w : ℕ). TakesCell c.args.style w (height_for c.args.style layout place) (out-TableCell c.cell-item.result)
+    (λ (w : ℕ). TakesCell c.args.style w (height_for c.args.style (out-Table c.args.table.now) layout place) (out-TableCell c.cell-item.result)
     layout.inner c.loop-cell.next None) columns
     (subst (λ (h : ℕ). TakesCell c.args.style c.room_size-columns.result h (out-TableCell c.cell-item.result)
     layout.inner c.loop-cell.next None) lines
     (subst
-    (λ inner. TakesCell c.args.style c.room_size-columns.result c.room_size-lines.result (out-TableCell c.cell-item.result)
+    (λ inner. TakesCell c.args.style c.room_size-columns.result (c.room_size-room.result + c.from-in-loop-cell.result) (out-TableCell c.cell-item.result)
     inner c.loop-cell.next None)
     c.as_slice-inner.ensures c.in-None.ensures)))
 
@@ -242,23 +252,25 @@ height_in-loop-cell-preserved t c =
     c.room_size-columns.ensures.room ∙ ap₂ (λ (gap : ℕ) (sizes : List ℕ). room gap sizes place.left place.right)
     c.gap-in-loop-cell.ensures
     c.as_slice-widths.ensures in
-    let lines : c.room_size-lines.result ≡ height_for c.args.style layout place =
-    c.room_size-lines.ensures.room ∙ ap₂ (λ (gap : ℕ) (sizes : List ℕ). room gap sizes place.top place.bottom)
-    c.row_gap.ensures c.as_slice-heights.ensures in
-    cells_taken-more c.args.style layout (out-Table c.args.table.now).cells c.loop-cell.cell-index c.loop-cell.next past
+    let lines : c.room_size-room.result + c.from-in-loop-cell.result ≡ height_for c.args.style (out-Table c.args.table.now) layout place =
+    ap₂ (λ (room inside : ℕ). room + inside)
+    (c.room_size-room.ensures.room ∙ ap₂ (λ (gap : ℕ) (sizes : List ℕ). room gap sizes place.top place.bottom)
+    c.row_gap.ensures c.as_slice-heights.ensures)
+    (c.from-in-loop-cell.ensures ∙ c.lines_inside.ensures (out-Table c.args.table.now) (sym c.head_end-end.ensures)) in
+    cells_taken-more c.args.style (out-Table c.args.table.now) layout c.loop-cell.cell-index c.loop-cell.next past
     c.cell-item.result
     (subst (λ items. c.loop-cell.cell-index < length items) c.as_slice-cell-items.ensures c.loop-cell-test.true)
     (subst (λ items. c.cell-item.result ≡ get_or items c.loop-cell.cell-index c.cell-item.result)
     c.as_slice-cell-items.ensures c.cell-item.is)
     c.loop-cell.invariant
     (subst
-    (λ (w : ℕ). TakesCell c.args.style w (height_for c.args.style layout place) (out-TableCell c.cell-item.result)
+    (λ (w : ℕ). TakesCell c.args.style w (height_for c.args.style (out-Table c.args.table.now) layout place) (out-TableCell c.cell-item.result)
     layout.inner c.loop-cell.next
     (Some past)) columns
     (subst (λ (h : ℕ). TakesCell c.args.style c.room_size-columns.result h (out-TableCell c.cell-item.result)
     layout.inner c.loop-cell.next (Some past)) lines
     (subst
-    (λ inner. TakesCell c.args.style c.room_size-columns.result c.room_size-lines.result (out-TableCell c.cell-item.result)
+    (λ inner. TakesCell c.args.style c.room_size-columns.result (c.room_size-room.result + c.from-in-loop-cell.result) (out-TableCell c.cell-item.result)
     inner c.loop-cell.next (Some past))
     c.as_slice-inner.ensures c.in-Some.ensures)))
 
@@ -274,10 +286,11 @@ height_in-returns-clause-takes t c =
     let width : c.total_size.result ≡ total (gap_of c.args.style) (edges_of c.args.style) layout.widths =
     c.total_size.ensures.total ∙ ap₂ (λ (gap edges : ℕ). total gap edges c.as_slice-widths.result.now) c.gap.ensures c.edges.ensures
     ∙ ap (total (gap_of c.args.style) (edges_of c.args.style)) c.as_slice-widths.ensures in
-    let height : c.total_size-2.result ≡ total (row_gap_of c.args.style) (edges_of c.args.style) layout.heights =
+    let lines = lines_of c.args.style (out-Table c.args.table.now) in
+    let height : c.total_size-2.result ≡ total (row_gap_of c.args.style) lines layout.heights =
     c.total_size-2.ensures.total ∙ ap₂ (λ (gap edges : ℕ). total gap edges c.as_slice-heights.result.now)
-    c.row_gap-2.ensures c.edges-2.ensures
-    ∙ ap (total (row_gap_of c.args.style) (edges_of c.args.style)) c.as_slice-heights.ensures in
+    c.row_gap-2.ensures c.lines_beside.ensures.lines
+    ∙ ap (total (row_gap_of c.args.style) lines) c.as_slice-heights.ensures in
     subst (λ (height : ℕ). TakesTable c.args.style c.args.width c.args.table.now c.args.layout.now (Some height)) (sym height)
     (cells_taken-all c.args.style c.args.width c.args.table.now c.args.layout.now c.loop-cell.cell-index c.loop-cell.next
     (omega (arith, ap length c.as_slice-widths.ensures, c.if-widths-table.false))
@@ -288,7 +301,7 @@ height_in-returns-clause-takes t c =
 
 pub height_in-loop-cell-init : goal.height_in-loop-cell-init
 height_in-loop-cell-init t c =
-    cells_taken-none c.args.style (out-Layout c.args.layout.now) (out-Table c.args.table.now).cells
+    cells_taken-none c.args.style (out-Table c.args.table.now) (out-Layout c.args.layout.now)
 
 pub height_in-returns-then-widths-table-clause-takes : goal.height_in-returns-then-widths-table-clause-takes
 height_in-returns-then-widths-table-clause-takes t c =

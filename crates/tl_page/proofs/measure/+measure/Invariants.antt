@@ -15,7 +15,7 @@ abbrev pub decreases-taken_by : goal.decreases-taken_by
 decreases-taken_by l = goal.size-taken_by l
 
 abbrev pub invariant-height_in-loop-cell : goal.invariant-height_in-loop-cell
-invariant-height_in-loop-cell l = CellsTaken l.style (out-Layout l.layout) (out-Table l.table).cells l.cell-index l.next
+invariant-height_in-loop-cell l = CellsTaken l.style (out-Table l.table) (out-Layout l.layout) l.cell-index l.next
 
 abbrev pub invariant-past_cell-loop-block : goal.invariant-past_cell-loop-block
 invariant-past_cell-loop-block l = record {

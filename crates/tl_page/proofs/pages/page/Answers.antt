@@ -10,7 +10,7 @@ returns c = (
   c.in_ok-lines.lines,
   (
     suc c.in_ok-cells.ensures.depth,
-    page_shown c.args.style c.args.table.now c.args.layout.now c.in_ok-cells.cells c.in_ok-lines.lines
+    page_shown c.args.look c.args.table.now c.args.layout.now c.in_ok-cells.cells c.in_ok-lines.lines
         c.in_ok-cells.ensures c.in_ok-lines.ensures,
   ),
   c.loop-line.invariant ∙ ap page_bytes (take_all c.loop-line.line-index c.as_slice-line-items.result.now
