@@ -21,6 +21,7 @@ abbrev pub takes_value : List ℕ → Bool
 takes_value word =
     bytes_eq word (codes "--style") || bytes_eq word (codes "--break") || bytes_eq word (codes "--budget")
     || bytes_eq word (codes "--solver") || bytes_eq word (codes "--workers") || bytes_eq word (codes "--least")
+    || bytes_eq word (codes "--align")
 
 -- what a word is for where options may stand
 abbrev pub own_role : List ℕ → Role

@@ -31,7 +31,7 @@ impl Role {
         match word {
             "--" => Role::End,
             "--progress" => Role::Progress,
-            "--style" | "--break" | "--budget" | "--solver" | "--workers" | "--least" =>
+            "--style" | "--break" | "--budget" | "--solver" | "--workers" | "--least" | "--align" =>
                 Role::Valued,
             _ if is_dashed(word) => Role::Flag,
             _ => Role::Plain,

@@ -57,6 +57,7 @@ const LINES: &[(&str, &str)] = &[
         "lay 7 t p --csv --style any",
     ),
     ("lay 7 --trim t --html p", "lay 7 t p --trim --html"),
+    ("lay 7 --align r,l t p", "lay 7 t p --align r,l"),
     ("lay 7 t p -- --progress", "lay 7 t p ./--progress"),
     (
         "lay 7 t p --style --progress",
@@ -106,6 +107,11 @@ const WRONG: &[(&str, &str)] = &[
     (
         "check 7 t c --trim",
         "command 'check' does not take '--trim'",
+    ),
+    ("lay 7 t p --align x", "option '--align' does not take 'x'"),
+    (
+        "check 7 t c --align l",
+        "command 'check' does not take '--align'",
     ),
     (
         "lay 7 t p --style gird",

@@ -25,6 +25,7 @@ const OPTIONS: &[&str] = &[
     "--csv",
     "--head",
     "--least",
+    "--align",
     "--trim",
     "--html",
     "--progress",

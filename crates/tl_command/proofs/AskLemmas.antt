@@ -64,6 +64,7 @@ name_dashed (choices.Workers workers) = (codes "workers", refl)
 name_dashed choices.Csv = (codes "csv", refl)
 name_dashed choices.Head = (codes "head", refl)
 name_dashed (choices.Least floors) = (codes "least", refl)
+name_dashed (choices.Align align) = (codes "align", refl)
 name_dashed choices.Trim = (codes "trim", refl)
 name_dashed choices.Html = (codes "html", refl)
 

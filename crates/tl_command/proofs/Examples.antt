@@ -27,11 +27,13 @@ nothing = record {
   csv = false;
   head = false;
   least = None;
+  align = None;
   trim = false;
   html = false;
 }
 
 gives_nothing : (choice : Choice) → IsGiven nothing choice → ⊥
+gives_nothing (choices.Align align) is = cc
 gives_nothing choices.Trim is = cc
 gives_nothing choices.Html is = cc
 gives_nothing choice is = cc
@@ -47,6 +49,7 @@ compact = record {
   csv = false;
   head = false;
   least = None;
+  align = None;
   trim = false;
   html = false;
 }

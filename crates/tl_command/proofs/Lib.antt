@@ -1,6 +1,7 @@
 pub mod AskLemmas
 mod Examples
 pub mod ListLemmas
+pub mod SideLemmas
 pub mod NameLemmas
 pub mod OptionLemmas
 pub mod SplitLemmas

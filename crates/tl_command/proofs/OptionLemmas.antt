@@ -26,10 +26,11 @@ use Rattle.tl_command.specs.declared.options.Choice.TheVariants as choices
 use Rattle.tl_command.specs.declared.options.Options.{Options}
 use Rattle.tl_base.specs.declared.search.Search.{Search}
 use Rattle.tl_base.specs.declared.search.Search.TheVariants as searches
-use Rattle.tl_command.specs.Options.{name_of, option_words, break_word, search_word, list_word}
+use Rattle.tl_command.specs.Options.{name_of, option_words, align_word, break_word, search_word, list_word}
 use Rattle.tl_command.specs.Options.{IsBreakRule, IsInRange, IsOptionOf, IsGiven, AreOfCsv, AreOptions}
 use Rattle.tl_command.specs.inner.OptionsRead.{HasReadOptions}
 use Rattle.tl_command.proofs.ListLemmas.{list_once}
+use Rattle.tl_command.proofs.SideLemmas.{align_once}
 
 -- what an option that is there holds
 pub held : {X : Type 0} (given : Option X) → is_some given ≡ true → (x : X) × (given ≡ Some x)
@@ -45,6 +46,8 @@ style_once styles.Compact styles.Compact e = refl
 style_once styles.Frame styles.Frame e = refl
 style_once styles.Grid styles.Grid e = refl
 style_once styles.Box styles.Box e = refl
+style_once styles.Rule styles.Rule e = refl
+style_once styles.Apart styles.Apart e = refl
 style_once one other e = absurd (omega (arith, ap (λ (word : List ℕ). get_or word 0 0) e))
 
 -- a word with another character than a digit is no number
@@ -116,6 +119,11 @@ prefix_free (choices.Least floors) (choices.Least floors2) xs ys small tiny e =
     let after : list_word floors ∷ xs ≡ list_word floors2 ∷ ys = cc in (
       ap choices.Least (list_once floors floors2 small tiny (first-same (list_word floors) (list_word floors2) xs ys after)),
       rest-same (list_word floors) (list_word floors2) xs ys after,
+    )
+prefix_free (choices.Align align) (choices.Align align2) xs ys small tiny e =
+    let after : align_word align ∷ xs ≡ align_word align2 ∷ ys = cc in (
+      ap choices.Align (align_once align align2 small tiny (first-same (align_word align) (align_word align2) xs ys after)),
+      rest-same (align_word align) (align_word align2) xs ys after,
     )
 prefix_free choices.Trim choices.Trim xs ys small tiny e = (refl, cc)
 prefix_free choices.Html choices.Html xs ys small tiny e = (refl, cc)
@@ -261,8 +269,8 @@ option_same (Some x) other to from = sym (to x refl)
 
 rebuilt : (one other : Options) → one.style ≡ other.style → one.breaking ≡ other.breaking → one.budget ≡ other.budget →
     one.search ≡ other.search → one.workers ≡ other.workers → one.csv ≡ other.csv → one.head ≡ other.head →
-    one.least ≡ other.least → one.trim ≡ other.trim → one.html ≡ other.html → one ≡ other
-rebuilt one other style breaking budget search workers csv head least trim html = λ i. record {
+    one.least ≡ other.least → one.align ≡ other.align → one.trim ≡ other.trim → one.html ≡ other.html → one ≡ other
+rebuilt one other style breaking budget search workers csv head least align trim html = λ i. record {
   style = style i;
   breaking = breaking i;
   budget = budget i;
@@ -271,6 +279,7 @@ rebuilt one other style breaking budget search workers csv head least trim html 
   csv = csv i;
   head = head i;
   least = least i;
+  align = align i;
   trim = trim i;
   html = html i;
 }
@@ -287,6 +296,7 @@ options_same one other to from =
     (same_test one.csv other.csv (to choices.Csv) (from choices.Csv))
     (same_test one.head other.head (to choices.Head) (from choices.Head))
     (option_same one.least other.least (λ x. to (choices.Least x)) (λ x. from (choices.Least x)))
+    (option_same one.align other.align (λ x. to (choices.Align x)) (λ x. from (choices.Align x)))
     (same_test one.trim other.trim (to choices.Trim) (from choices.Trim))
     (same_test one.html other.html (to choices.Html) (from choices.Html))
 

@@ -70,6 +70,7 @@ takes Check (choices.Workers workers) = true
 takes Check choices.Csv = true
 takes Check choices.Head = true
 takes Check (choices.Least floors) = true
+takes Check (choices.Align align) = false
 takes Check choices.Trim = false
 takes Check choices.Html = false
 takes Demo choice = false

@@ -1,6 +1,6 @@
--- The options of a command: `--style plain|compact|frame|grid|box`, `--break words|any|fit|N`, `--budget N`,
--- `--solver plain|best|learn|rounds`, `--workers K`, `--csv`, `--head`, `--least LIST`, `--trim` and `--html`, in any order,
--- each at most once, its value as the next argument.
+-- The options of a command: `--style plain|compact|rule|apart|frame|grid|box`, `--break words|any|fit|N`, `--budget N`,
+-- `--solver plain|best|learn|rounds`, `--workers K`, `--csv`, `--head`, `--least LIST`, `--align LIST|auto`, `--trim` and
+-- `--html`, in any order, each at most once, its value as the next argument.
 use Rattle.std.specs.Prelude.{◌≡◌, ◌≢◌, ◌↔◌, ℕ, ◌≤◌, Bool, true, false, List, [], ◌∷◌, ◌++◌, length, drop, Some, IsTrue, Contains}
 use Rattle.std.specs.Prelude.{codes, decimal}
 use Rattle.std.specs.List.{All, AllPairs, flat_map}
@@ -15,6 +15,10 @@ use Rattle.tl_command.specs.declared.options.Options.{Options}
 use Rattle.tl_base.specs.declared.search.Search.{Search}
 use Rattle.tl_base.specs.declared.search.Search.TheVariants as searches
 use Rattle.tl_command.specs.declared.options.TheConstants.{MAX_WORKERS}
+use Rattle.tl_sides.specs.declared.align.Align.{Align}
+use Rattle.tl_sides.specs.declared.align.Align.TheVariants as aligns
+use Rattle.tl_sides.specs.declared.side.Side.{Side}
+use Rattle.tl_sides.specs.declared.side.Side.TheVariants as sides
 use Rattle.tl_command.specs.Command.{takes}
 
 -- ---- how an option is spelled
@@ -42,6 +46,21 @@ comma_numbers numbers = flat_map (λ number. codes "," ++ decimal number) number
 abbrev pub list_word : List ℕ → List ℕ
 list_word numbers = drop 1 (comma_numbers numbers)
 
+-- the letter of a side
+abbrev pub side_letter : Side → ℕ
+side_letter sides.Left = 0x6C
+side_letter sides.Right = 0x72
+side_letter sides.Center = 0x63
+
+-- the letters of sides with a comma before each
+abbrev pub comma_letters : List Side → List ℕ
+comma_letters list = flat_map (λ side. 0x2C ∷ side_letter side ∷ []) list
+
+-- how it is spelled where lines stand: by the letters of the columns, with a comma between each two, or by what stands in them
+abbrev pub align_word : Align → List ℕ
+align_word (aligns.Columns list) = drop 1 (comma_letters list)
+align_word aligns.Auto = codes "auto"
+
 -- the argument that names an option
 abbrev pub name_of : Choice → List ℕ
 name_of (choices.Style style) = codes "--style"
@@ -52,6 +71,7 @@ name_of (choices.Workers workers) = codes "--workers"
 name_of choices.Csv = codes "--csv"
 name_of choices.Head = codes "--head"
 name_of (choices.Least floors) = codes "--least"
+name_of (choices.Align align) = codes "--align"
 name_of choices.Trim = codes "--trim"
 name_of choices.Html = codes "--html"
 
@@ -65,6 +85,7 @@ values_of (choices.Workers workers) = decimal workers ∷ []
 values_of choices.Csv = []
 values_of choices.Head = []
 values_of (choices.Least floors) = list_word floors ∷ []
+values_of (choices.Align align) = align_word align ∷ []
 values_of choices.Trim = []
 values_of choices.Html = []
 
@@ -93,6 +114,11 @@ pub record AreFloors (floors : List ℕ) : Type 0 where
   pub few : length floors ≤ MAX_COLUMNS
   pub narrow : All (λ floor. floor ≤ MAX_PAGE_WIDTH) floors
 
+-- some sides, for no more columns than a table may have; or what stands in the columns decides
+abbrev pub IsAlign : Align → Type 0
+IsAlign (aligns.Columns list) = (1 ≤ length list) × (length list ≤ MAX_COLUMNS)
+IsAlign aligns.Auto = Unit {0}
+
 -- the value is within its limits
 abbrev pub IsInRange : Choice → Type 0
 IsInRange (choices.Style style) = Unit {0}
@@ -103,6 +129,7 @@ IsInRange (choices.Workers workers) = AreWorkers workers
 IsInRange choices.Csv = Unit {0}
 IsInRange choices.Head = Unit {0}
 IsInRange (choices.Least floors) = AreFloors floors
+IsInRange (choices.Align align) = IsAlign align
 IsInRange choices.Trim = Unit {0}
 IsInRange choices.Html = Unit {0}
 
@@ -121,6 +148,7 @@ IsGiven options (choices.Workers workers) = options.workers ≡ Some workers
 IsGiven options choices.Csv = options.csv ≡ true
 IsGiven options choices.Head = options.head ≡ true
 IsGiven options (choices.Least floors) = options.least ≡ Some floors
+IsGiven options (choices.Align align) = options.align ≡ Some align
 IsGiven options choices.Trim = options.trim ≡ true
 IsGiven options choices.Html = options.html ≡ true
 
@@ -136,6 +164,7 @@ speaks_of_csv (choices.Workers workers) = false
 speaks_of_csv choices.Csv = false
 speaks_of_csv choices.Head = true
 speaks_of_csv (choices.Least floors) = true
+speaks_of_csv (choices.Align align) = false
 speaks_of_csv choices.Trim = false
 speaks_of_csv choices.Html = false
 

@@ -98,7 +98,7 @@ impl Command {
             Command::Check => match choice {
                 Choice::Style(_) | Choice::Breaking(_) | Choice::Budget(_) => true,
                 Choice::Csv | Choice::Head | Choice::Least(_) | Choice::Workers(_) => true,
-                Choice::Search(_) | Choice::Trim | Choice::Html => false,
+                Choice::Search(_) | Choice::Align(_) | Choice::Trim | Choice::Html => false,
             },
             Command::Demo => false,
         }

@@ -9,10 +9,12 @@ ghost use Rattle.tl_command.specs.Options.{AreOfCsv, speaks_of_csv};
 
 use crate::command::Command;
 use crate::values::{
-    breaking_named, budget_named, least_named, search_named, style_named, workers_named,
+    align_named, breaking_named, budget_named, least_named, search_named, style_named,
+    workers_named,
 };
 use tl_base::{Search, Style};
 use tl_floors::Floors;
+use tl_sides::Align;
 
 /// How many workers there may be.
 pub const MAX_WORKERS: u32 = 16;
@@ -36,7 +38,7 @@ pub enum BreakRule {
 /// An option that is given.
 #[derive(Clone, Copy)]
 pub enum Choice {
-    /// `--style plain|compact|frame|grid|box`.
+    /// `--style plain|compact|rule|apart|frame|grid|box`.
     Style(Style),
     /// `--break words|any|fit|N`, with N at most [`tl_base::MAX_PAGE_WIDTH`].
     Breaking(BreakRule),
@@ -52,6 +54,9 @@ pub enum Choice {
     Head,
     /// `--least LIST`, with LIST one number or more, and a comma between each two.
     Least(Floors),
+    /// `--align LIST`, with LIST one of the letters `l`, `r` and `c` or more, and a comma between each two;
+    /// or `--align auto`.
+    Align(Align),
     /// `--trim`.
     Trim,
     /// `--html`.
@@ -77,6 +82,8 @@ pub struct Options {
     pub head: bool,
     /// The least widths of the first columns of a CSV file.
     pub least: Option<Floors>,
+    /// On which side the lines of the cells stand on a page of text.
+    pub align: Option<Align>,
     /// Whether the lines of a page of text end without spaces.
     pub trim: bool,
     /// Whether the page is HTML.
@@ -138,6 +145,7 @@ impl Choice {
             "--solver" => search_named(value),
             "--workers" => workers_named(value),
             "--least" => least_named(value),
+            "--align" => align_named(value),
             _ => None,
         }
     }
@@ -172,6 +180,7 @@ impl Options {
             csv: false,
             head: false,
             least: None,
+            align: None,
             trim: false,
             html: false,
         }
@@ -191,6 +200,7 @@ impl Options {
             Choice::Csv => self.csv,
             Choice::Head => self.head,
             Choice::Least(_) => self.least.is_some(),
+            Choice::Align(_) => self.align.is_some(),
             Choice::Trim => self.trim,
             Choice::Html => self.html,
         }
@@ -211,6 +221,7 @@ impl Options {
             Choice::Csv => options.csv = true,
             Choice::Head => options.head = true,
             Choice::Least(floors) => options.least = Some(floors),
+            Choice::Align(align) => options.align = Some(align),
             Choice::Trim => options.trim = true,
             Choice::Html => options.html = true,
         }

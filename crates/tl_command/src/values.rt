@@ -5,12 +5,15 @@ ghost use Rattle.tl_base.specs.declared.style.Style.{Style};
 ghost use Rattle.tl_base.specs.Style.{style_word};
 ghost use Rattle.tl_base.specs.declared.search.Search.{Search};
 ghost use Rattle.tl_command.specs.declared.options.BreakRule.{BreakRule};
-ghost use Rattle.tl_command.specs.Options.{option_words, break_word, search_word, list_word, IsInRange, AreFloors, AreWorkers, IsBreakRule};
+ghost use Rattle.tl_command.specs.Options.{option_words, break_word, search_word, list_word, align_word, IsInRange, IsAlign};
+ghost use Rattle.tl_command.specs.Options.{AreFloors, AreWorkers, IsBreakRule};
+ghost use Rattle.tl_sides.specs.declared.align.Align.{Align as AnAlign};
 
-use crate::lists::floors_listed;
+use crate::lists::{floors_listed, sides_listed};
 use crate::numbers::number_within;
 use crate::options::{BreakRule, Choice, MAX_WORKERS};
 use tl_base::{MAX_BUDGET, MAX_PAGE_WIDTH, Search, Style};
+use tl_sides::Align;
 
 pub(crate) fn style_named(value: &str) -> Option<Choice>
     ensures range { IfSome result IsInRange }
@@ -23,6 +26,8 @@ pub(crate) fn style_named(value: &str) -> Option<Choice>
         "frame" => Some(Choice::Style(Style::Frame)),
         "grid" => Some(Choice::Style(Style::Grid)),
         "box" => Some(Choice::Style(Style::Box)),
+        "rule" => Some(Choice::Style(Style::Rule)),
+        "apart" => Some(Choice::Style(Style::Apart)),
         _ => None,
     }
 }
@@ -82,4 +87,18 @@ pub(crate) fn least_named(value: &str) -> Option<Choice>
 {
     let floors = floors_listed(value)?;
     Some(Choice::Least(floors))
+}
+
+pub(crate) fn align_named(value: &str) -> Option<Choice>
+    ensures range { IfSome result IsInRange }
+    ensures spelled { IfSome result (λ choice. option_words choice ≡ codes "--align" ∷ value.now ∷ []) }
+    ensures none { IfNone result ((align : AnAlign) → IsAlign align → align_word align ≢ value.now) }
+{
+    match value {
+        "auto" => Some(Choice::Align(Align::Auto)),
+        _ => {
+            let sides = sides_listed(value)?;
+            Some(Choice::Align(Align::Columns(sides)))
+        }
+    }
 }

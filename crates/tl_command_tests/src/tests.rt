@@ -6,6 +6,7 @@ use std::test::Fail;
 use tl_base::{Search, Style};
 use tl_command::{Ask, BreakRule, Choice, Command, Options};
 use tl_floors::Floors;
+use tl_sides::{Align, Side};
 
 /// Command lines beside what they ask for: the command, the number, the names, and after `:` each
 /// option that is given, in the order style, breaks, budget, search, workers, CSV, head, least widths,
@@ -20,6 +21,8 @@ const ASKS: &[(&str, &str)] = &[
     ("lay 7 t p --style grid", "lay 7 t p : style=grid"),
     ("lay 7 t p --style box", "lay 7 t p : style=box"),
     ("check 7 t c --style box", "check 7 t c : style=box"),
+    ("lay 7 t p --style rule", "lay 7 t p : style=rule"),
+    ("tidy 7 t p --style apart", "tidy 7 t p : style=apart"),
     ("lay 7 t p --break words", "lay 7 t p : break=words"),
     ("lay 7 t p --break any", "lay 7 t p : break=any"),
     ("lay 7 t p --break fit", "lay 7 t p : break=fit"),
@@ -42,6 +45,17 @@ const ASKS: &[(&str, &str)] = &[
         "lay 7 t p : style=compact break=words budget=10 solver=plain html",
     ),
     ("lay 7 t p --trim", "lay 7 t p : trim"),
+    ("lay 7 t p --align l", "lay 7 t p : align=l"),
+    ("lay 7 t p --align c,r,l,r", "lay 7 t p : align=c,r,l,r"),
+    (
+        "lay 7 t p --align l,r,c,l,r,c,l,r,c,l,r,c,l,r,c,l,r,c,l,r,c,l,r,c,l,r,c,l,r,c,l,r,c,l,r,c,l,r,c,l,r,c,l,r,c,l,r,c,l,r,c,l,r,c,l,r,c,l,r,c",
+        "lay 7 t p : align=l,r,c,l,r,c,l,r,c,l,r,c,l,r,c,l,r,c,l,r,c,l,r,c,l,r,c,l,r,c,l,r,c,l,r,c,l,r,c,l,r,c,l,r,c,l,r,c,l,r,c,l,r,c,l,r,c,l,r,c",
+    ),
+    (
+        "narrow 2 t p --align auto --trim",
+        "narrow 2 t p : align=auto trim",
+    ),
+    ("tidy 2 t p --html --align r", "tidy 2 t p : align=r html"),
     (
         "lay 7 t p c --html --style grid --trim",
         "lay 7 t p c : style=grid trim html",
@@ -286,6 +300,18 @@ const VALUES: &[&str] = &[
     "lay 7 t p --solver plain best",
     "lay 7 t p --html yes",
     "lay 7 t p --trim yes",
+    "lay 7 t p --align",
+    "lay 7 t p --align ",
+    "lay 7 t p --align l,",
+    "lay 7 t p --align ,l",
+    "lay 7 t p --align l,,r",
+    "lay 7 t p --align lr",
+    "lay 7 t p --align L",
+    "lay 7 t p --align left",
+    "lay 7 t p --align auto,l",
+    "lay 7 t p --align Auto",
+    "lay 7 t p --align l --align r",
+    "lay 7 t p --align l,r,c,l,r,c,l,r,c,l,r,c,l,r,c,l,r,c,l,r,c,l,r,c,l,r,c,l,r,c,l,r,c,l,r,c,l,r,c,l,r,c,l,r,c,l,r,c,l,r,c,l,r,c,l,r,c,l,r,c,l",
     "lay 7 t p --trimmed",
     "lay 7 t p --TRIM",
     "lay 7 t p --HTML",
@@ -331,6 +357,8 @@ const VALUES: &[&str] = &[
 const NOT_TAKEN: &[&str] = &[
     "check 7 t c --html",
     "check 7 t c --trim",
+    "check 7 t c --align l",
+    "check 7 t c --align auto",
     "check 7 t c --csv --trim",
     "check 7 t c --solver best",
     "check 7 t c --solver plain",
@@ -376,6 +404,8 @@ fn style_word(style: Style) -> &'static str {
         Style::Frame => "frame",
         Style::Grid => "grid",
         Style::Box => "box",
+        Style::Rule => "rule",
+        Style::Apart => "apart",
     }
 }
 
@@ -447,6 +477,28 @@ fn push_least(alloc: Global, text: &mut String, least: &Option<Floors>) -> Resul
     Ok(())
 }
 
+fn side_letter(side: Side) -> &'static str {
+    match side {
+        Side::Left => "l",
+        Side::Right => "r",
+        Side::Center => "c",
+    }
+}
+
+/// The sides, where they are given.
+fn push_align(alloc: Global, text: &mut String, align: &Option<Align>) -> Result<(), AllocError> {
+    let sides = match align {
+        None => return Ok(()),
+        Some(Align::Auto) => return push_word(alloc, text, "align", Some("auto")),
+        Some(Align::Columns(sides)) => sides,
+    };
+    for (column, side) in sides.as_slice().iter().enumerate() {
+        text.push_str(if column == 0 { " align=" } else { "," })?;
+        text.push_str(side_letter(*side))?;
+    }
+    Ok(())
+}
+
 /// The options in words, each after a space.
 fn push_options(alloc: Global, text: &mut String, options: &Options) -> Result<(), AllocError> {
     push_word(alloc, text, "style", options.style.map(style_word))?;
@@ -457,6 +509,7 @@ fn push_options(alloc: Global, text: &mut String, options: &Options) -> Result<(
     push_flag(text, "csv", options.csv)?;
     push_flag(text, "head", options.head)?;
     push_least(alloc, text, &options.least)?;
+    push_align(alloc, text, &options.align)?;
     push_flag(text, "trim", options.trim)?;
     push_flag(text, "html", options.html)
 }

@@ -41,6 +41,11 @@ returns-in-Least-clause-yes c = λ is.
     let given = held c.args.self.now.least (sym c.is_some-in-Least.ensures ∙ is) in
     (choices.Least given.0, given.1, ap name_of (sym c.in-Least.is))
 
+pub returns-in-Align-clause-yes : goal.returns-in-Align-clause-yes
+returns-in-Align-clause-yes c = λ is.
+    let given = held c.args.self.now.align (sym c.is_some-in-Align.ensures ∙ is) in
+    (choices.Align given.0, given.1, ap name_of (sym c.in-Align.is))
+
 pub returns-in-Trim-clause-yes : goal.returns-in-Trim-clause-yes
 returns-in-Trim-clause-yes c = λ is. (choices.Trim, is, ap name_of (sym c.in-Trim.is))
 
