@@ -11,11 +11,12 @@ use Rattle.tl_narrow.specs.declared.slim.Slim.{Slim}
 use Rattle.tl_page.specs.Pages.{page_bytes}
 use Rattle.tl_page.specs.Standing.{HoldsAllText}
 use Rattle.tl_read.specs.declared.source.Source.TheVariants.{Html}
+use Rattle.tl_sides.specs.declared.align.Align.TheVariants.{Columns, Auto}
 use Rattle.tl_lay.specs.declared.answer.Answer.TheVariants as answers
 use Rattle.tl_lay.specs.declared.answer.Evidence.{Evidence}
 use Rattle.tl_lay.specs.declared.format.Format.TheVariants as formats
 use Rattle.tl_lay.specs.declared.task.Task.{Task}
-use Rattle.tl_lay.specs.Answers.{IsTextWanted, IsWholePage}
+use Rattle.tl_lay.specs.Answers.{IsTextWanted, IsWholePage, look_of}
 use Rattle.tl_lay.specs.Budgets.{budget_of}
 use Rattle.tl_lay.specs.Lowest.{HasNoneBelow, Lays}
 use Rattle.tl_lay.specs.Slimmed.{slim_answer}
@@ -35,8 +36,8 @@ given : budget_of (Some 100000) 81 ≡ 100000
 given = refl
 
 -- an empty file is no page of a layout of one line
-no_line : (table : Table) (layout : Layout) → IsWholePage formats.Text styles.Plain Words table 1 layout [] → ⊥
-no_line table layout whole = by_lines whole.0 whole.3 whole.4 where
+no_line : (table : Table) (layout : Layout) → IsWholePage (formats.Text (Columns [])) styles.Plain Words table 1 layout [] → ⊥
+no_line table layout whole = by_lines whole.0 whole.1.2 whole.2 where
   by_lines : (lines : List (List ℕ)) → length lines ≡ 1 → [] ≡ page_bytes lines → ⊥
   by_lines [] high same = omega (arith, high)
   by_lines (line ∷ lines) high same = omega (
@@ -48,9 +49,9 @@ no_line table layout whole = by_lines whole.0 whole.3 whole.4 where
 
 -- the text of a page is that of the table, whole
 holds_text : (table : Table) (height : ℕ) (layout : Layout) (page : List ℕ) →
-    IsWholePage formats.Text styles.Frame Words table height layout page →
-    (lines : List (List ℕ)) × HoldsAllText styles.Frame table layout lines × (page ≡ page_bytes lines)
-holds_text table height layout page whole = (whole.0, whole.2, whole.4)
+    IsWholePage (formats.Text Auto) styles.Frame Words table height layout page →
+    (lines : List (List ℕ)) × HoldsAllText (look_of styles.Frame Auto) table layout lines × (page ≡ page_bytes lines)
+holds_text table height layout page whole = (whole.0, whole.1.1, whole.2)
 
 -- a text that is not wanted is not there
 not_wanted : (certificate : _) (text : List ℕ) → IsTextWanted false (Some certificate) (Some text) → ⊥
@@ -67,7 +68,7 @@ seven = record {
   budget = None;
   search = Best;
   workers = 1;
-  format = formats.Text;
+  format = formats.Text (Columns []);
   certified = true;
 }
 

@@ -6,7 +6,7 @@ use Rattle.tl_base.specs.declared.style.Style.{Style}
 use Rattle.tl_cert.specs.declared.certificate.Certificate.{Certificate}
 use Rattle.tl_cert.specs.declared.certificate.Claim.TheVariants as claims
 use Rattle.tl_cert.specs.Text.{cert_text}
-use Rattle.tl_table.specs.declared.cell.Table.{Table}
+use Rattle.tl_table.specs.declared.cell.Table.{Table, out-Table}
 use Rattle.tl_table.specs.declared.layout.Layout.{Layout, out-Layout}
 use Rattle.tl_table.specs.Chains.{IsChain}
 use Rattle.tl_table.specs.Layouts.{Fits, FitsWithin, total_height}
@@ -14,6 +14,8 @@ use Rattle.tl_table.specs.Sound.{IsSound}
 use Rattle.tl_table.specs.Spellable.{IsSpellable}
 use Rattle.tl_table.proofs.SoundBy.{sound_by}
 use Rattle.tl_form.specs.Valid.{AreTooWide, IsShown}
+use Rattle.tl_page.specs.declared.look.Look.{Look}
+use Rattle.tl_page.specs.Pages.{IsPage}
 use Rattle.tl_page.proofs.PageLaws.{as_high}
 use Rattle.tl_page.proofs.Whole.{whole}
 use Rattle.tl_html.proofs.Fitting.{fitting_columns}
@@ -28,7 +30,8 @@ use Rattle.tl_lay.specs.declared.answer.Answer.TheVariants as answers
 use Rattle.tl_lay.specs.declared.format.Format.{Format}
 use Rattle.tl_lay.specs.declared.format.Format.TheVariants as formats
 use Rattle.tl_lay.specs.declared.task.Task.{Task}
-use Rattle.tl_lay.specs.Answers.{Certifies, IsAnswered, IsReadBack, certificate_file, IsLaidAs, IsPageAt, IsPageFile, IsWholePage, IsWrittenNarrow}
+use Rattle.tl_lay.specs.Answers.{AreWholeLines, Certifies, IsAnswered, IsReadBack, look_of, certificate_file, IsLaidAs}
+use Rattle.tl_lay.specs.Answers.{IsPageAt, IsPageFile, IsWholePage, IsWrittenNarrow}
 use Rattle.tl_lay.specs.Answers.{bounded_laid, lowest_laid, narrow_laid}
 use Rattle.tl_lay.specs.Budgets.{budget_in, reach}
 use Rattle.tl_lay.specs.Inputs.{IsOfReading}
@@ -55,31 +58,29 @@ says_of task Own Says bytes answer refused own of = by_reading of.reading of.rea
 
 -- a layout that fits with this height is so high
 fits_high : (table : Table) (style : Style) (width height : ℕ) (layout : Layout) → Fits table style width height layout →
-    total_height style (out-Layout layout) ≡ height
+    total_height style (out-Table table) (out-Layout layout) ≡ height
 fits_high table style width height layout fits = by_depth fits.0 fits.1 where
   by_depth : (depth : ℕ) → FitsWithin depth style table width height layout →
-      total_height style (out-Layout layout) ≡ height
+      total_height style (out-Table table) (out-Layout layout) ≡ height
   by_depth zero fits = absurd fits
   by_depth (suc depth) fits = fits.high
 
--- a page of a sound table in a layout that fits has all its text
+-- the lines of a page of a sound table in a layout that fits have all its text
+whole_lines : (look : Look) (table : Table) (width height : ℕ) (layout : Layout) (lines : List (List ℕ)) → IsSound table →
+    Fits table look.style width height layout → IsPage look table layout lines → AreWholeLines look table height layout lines
+whole_lines look table width height layout lines sound fits is = (
+  is,
+  (is.0, (whole is.0 look table layout lines width height sound fits is.1).holds),
+  as_high look table layout lines is ∙ fits_high table look.style width height layout fits,
+)
+
 whole_page : (format : Format) (style : Style) (breaking : Breaking) (table : Table) (width height : ℕ) (layout : Layout)
     (page : List ℕ) → IsSound table → IsSpellable breaking table → Fits table style width height layout →
     IsPageFile format style table layout page → IsWholePage format style breaking table height layout page
-whole_page formats.Text style breaking table width height layout page sound spellable fits (lines, is, same) = (
-  lines,
-  is,
-  (is.0, (whole is.0 style table layout lines width height sound fits is.1).holds),
-  as_high style table layout lines is ∙ fits_high table style width height layout fits,
-  same,
-)
-whole_page formats.Trimmed style breaking table width height layout page sound spellable fits (lines, is, same) = (
-  lines,
-  is,
-  (is.0, (whole is.0 style table layout lines width height sound fits is.1).holds),
-  as_high style table layout lines is ∙ fits_high table style width height layout fits,
-  same,
-)
+whole_page (formats.Text align) style breaking table width height layout page sound spellable fits (lines, is, same) =
+    (lines, whole_lines (look_of style align) table width height layout lines sound fits is, same)
+whole_page (formats.Trimmed align) style breaking table width height layout page sound spellable fits (lines, is, same) =
+    (lines, whole_lines (look_of style align) table width height layout lines sound fits is, same)
 whole_page formats.Html style breaking table width height layout page sound spellable fits (same, is) = (
   is,
   reads_back table layout page is (sound_by breaking table sound spellable)

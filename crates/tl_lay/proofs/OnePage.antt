@@ -7,7 +7,6 @@ use Rattle.std.specs.List.{AllByRecursion, AllZip, flat_map}
 use Rattle.std.proofs.lemmas.List.{length-append}
 use Rattle.std.proofs.lemmas.List.Concat.{flat_map-cons}
 use Rattle.std.proofs.lemmas.List.Sums.{sum_by-append, sum_by-cons}
-use Rattle.tl_base.specs.declared.style.Style.{Style}
 use Rattle.tl_base.proofs.Members.{AllByRecursion-suffix, AllByRecursion-prefix}
 use Rattle.tl_text.specs.declared.paragraph.Atom.{Atom}
 use Rattle.tl_text.specs.Paragraph.{gap_before, lined_pieces, unit_width}
@@ -17,10 +16,13 @@ use Rattle.tl_table.specs.declared.cell.Content.TheOpen as open_content
 use Rattle.tl_table.specs.declared.cell.Table.{Table, out-Table}
 use Rattle.tl_table.specs.declared.cell.TableCell.{TableCell, out-TableCell}
 use Rattle.tl_table.specs.declared.layout.Layout.{Layout, out-Layout}
-use Rattle.tl_table.specs.Tables.{OpenContent, tables_of}
+use Rattle.tl_table.specs.Tables.{OpenTable, OpenContent, tables_of}
 use Rattle.tl_table.specs.Layouts.{OpenLayout, width_for}
+use Rattle.tl_sides.specs.declared.side.Side.{Side}
+use Rattle.tl_align.specs.Sides.{side_of}
 use Rattle.tl_page.specs.declared.line.Line.{Line}
-use Rattle.tl_page.specs.Pages.{AreParagraphLines, IsPage, ShowsBlock, ShowsBy, ShowsCell, ShowsWithin, grid_of, line_from}
+use Rattle.tl_page.specs.declared.look.Look.{Look}
+use Rattle.tl_page.specs.Pages.{AreParagraphLines, IsPage, ShowsBlock, ShowsBy, ShowsCell, ShowsWithin, aligned, grid_of, line_from}
 use Rattle.tl_page.specs.Pages as pages
 use Rattle.tl_page.specs.Pictures.{lines_of, picture}
 use Rattle.tl_lay.specs.Flat.{HasNoNested}
@@ -171,59 +173,63 @@ one_cutting w atoms one other is are =
 -- ---- a page
 
 -- what a block shows of a paragraph
-one_block : (shows also : Table → Layout → List (List ℕ) → Type 0) (style : Style) (w : ℕ) (block : OpenContent)
-    (one other : pages.Content) → tables_of block ≡ [] → ShowsBlock shows style w block one →
-    ShowsBlock also style w block other → one.lines ≡ other.lines
-one_block shows also style w (open_content.Para paragraph) one other flat is are =
-    is.0.2 ∙ ap (λ (cut : List (List (List Atom))). map line_from (joined cut)) (one_cutting w paragraph is.0.0 are.0.0 is.0.1 are.0.1)
-    ∙ sym are.0.2
-one_block shows also style w (open_content.Table box) one other flat is are = absurd (omega (arith, ap length flat))
+one_block : (shows also : Table → Layout → List (List ℕ) → Type 0) (look : Look) (side : Side) (w : ℕ) (block : OpenContent)
+    (one other : pages.Content) → tables_of block ≡ [] → ShowsBlock shows look side w block one →
+    ShowsBlock also look side w block other → one.lines ≡ other.lines
+one_block shows also look side w (open_content.Para paragraph) one other flat is are =
+    let cut = one_cutting w paragraph is.cut.0 are.cut.0 is.cut.1 are.cut.1 in
+    is.at_side ∙ ap (map (aligned side w))
+    (is.cut.2 ∙ ap (λ (cut : List (List (List Atom))). map line_from (joined cut)) cut ∙ sym are.cut.2) ∙ sym are.at_side
+one_block shows also look side w (open_content.Table box) one other flat is are = absurd (omega (arith, ap length flat))
 
-one_lines : (shows also : Table → Layout → List (List ℕ) → Type 0) (style : Style) (w : ℕ) (blocks : List Content)
+one_lines : (shows also : Table → Layout → List (List ℕ) → Type 0) (look : Look) (side : Side) (w : ℕ) (blocks : List Content)
     (ones others : List pages.Content) → AreFlatBlocks blocks →
-    AllZip (λ block part. ShowsBlock shows style w (out-Content block) part) blocks ones →
-    AllZip (λ block part. ShowsBlock also style w (out-Content block) part) blocks others →
+    AllZip (λ block part. ShowsBlock shows look side w (out-Content block) part) blocks ones →
+    AllZip (λ block part. ShowsBlock also look side w (out-Content block) part) blocks others →
     flat_map (λ (part : pages.Content). part.lines) ones ≡ flat_map (λ (part : pages.Content). part.lines) others
-one_lines shows also style w [] [] [] flat is are = refl
-one_lines shows also style w [] [] (other ∷ others) flat is are = absurd are
-one_lines shows also style w [] (one ∷ ones) others flat is are = absurd is
-one_lines shows also style w (block ∷ blocks) [] others flat is are = absurd is
-one_lines shows also style w (block ∷ blocks) (one ∷ ones) [] flat is are = absurd are
-one_lines shows also style w (block ∷ blocks) (one ∷ ones) (other ∷ others) flat is are =
+one_lines shows also look side w [] [] [] flat is are = refl
+one_lines shows also look side w [] [] (other ∷ others) flat is are = absurd are
+one_lines shows also look side w [] (one ∷ ones) others flat is are = absurd is
+one_lines shows also look side w (block ∷ blocks) [] others flat is are = absurd is
+one_lines shows also look side w (block ∷ blocks) (one ∷ ones) [] flat is are = absurd are
+one_lines shows also look side w (block ∷ blocks) (one ∷ ones) (other ∷ others) flat is are =
     flat_map-cons (λ (part : pages.Content). part.lines) one ones
     ∙ ap₂ (λ (first rest : List Line). first ++ rest)
-    (one_block shows also style w (out-Content block) one other (flat_block block blocks flat) is.0 are.0)
-    (one_lines shows also style w blocks ones others (flat_blocks block blocks flat) is.1 are.1)
+    (one_block shows also look side w (out-Content block) one other (flat_block block blocks flat) is.0 are.0)
+    (one_lines shows also look side w blocks ones others (flat_blocks block blocks flat) is.1 are.1)
     ∙ sym (flat_map-cons (λ (part : pages.Content). part.lines) other others)
 
-one_contents : (shows also : Table → Layout → List (List ℕ) → Type 0) (style : Style) (layout : OpenLayout) (cells : List TableCell)
-    (ones others : List pages.Content) → AreFlatCells cells →
-    AllZip (λ cell content. ShowsCell shows style (width_for style layout (out-TableCell cell).place) (out-TableCell cell) content)
+one_contents : (shows also : Table → Layout → List (List ℕ) → Type 0) (look : Look) (table : OpenTable) (layout : OpenLayout)
+    (cells : List TableCell) (ones others : List pages.Content) → AreFlatCells cells →
+    AllZip (λ cell content. ShowsCell shows look (side_of look.align table (out-TableCell cell))
+    (width_for look.style layout (out-TableCell cell).place) (out-TableCell cell) content)
     cells ones →
-    AllZip (λ cell content. ShowsCell also style (width_for style layout (out-TableCell cell).place) (out-TableCell cell) content)
+    AllZip (λ cell content. ShowsCell also look (side_of look.align table (out-TableCell cell))
+    (width_for look.style layout (out-TableCell cell).place) (out-TableCell cell) content)
     cells others →
     map (λ (content : pages.Content). content.lines) ones ≡ map (λ (content : pages.Content). content.lines) others
-one_contents shows also style layout [] [] [] flat is are = refl
-one_contents shows also style layout [] [] (other ∷ others) flat is are = absurd are
-one_contents shows also style layout [] (one ∷ ones) others flat is are = absurd is
-one_contents shows also style layout (cell ∷ cells) [] others flat is are = absurd is
-one_contents shows also style layout (cell ∷ cells) (one ∷ ones) [] flat is are = absurd are
-one_contents shows also style layout (cell ∷ cells) (one ∷ ones) (other ∷ others) flat is are =
+one_contents shows also look table layout [] [] [] flat is are = refl
+one_contents shows also look table layout [] [] (other ∷ others) flat is are = absurd are
+one_contents shows also look table layout [] (one ∷ ones) others flat is are = absurd is
+one_contents shows also look table layout (cell ∷ cells) [] others flat is are = absurd is
+one_contents shows also look table layout (cell ∷ cells) (one ∷ ones) [] flat is are = absurd are
+one_contents shows also look table layout (cell ∷ cells) (one ∷ ones) (other ∷ others) flat is are =
     ap₂ (λ (first : List Line) (rest : List (List Line)). first ∷ rest)
-    (sym is.0.lines ∙ one_lines shows also style (width_for style layout (out-TableCell cell).place) (out-TableCell cell).blocks
+    (sym is.0.lines ∙ one_lines shows also look (side_of look.align table (out-TableCell cell))
+    (width_for look.style layout (out-TableCell cell).place) (out-TableCell cell).blocks
     is.0.parts are.0.parts (flat_cell cell cells flat) is.0.blocks are.0.blocks ∙ are.0.lines)
-    (one_contents shows also style layout cells ones others (flat_cells cell cells flat) is.1 are.1)
+    (one_contents shows also look table layout cells ones others (flat_cells cell cells flat) is.1 are.1)
 
 -- a layout has one page
-pub one_page : (style : Style) (table : Table) (layout : Layout) (one other : List (List ℕ)) → HasNoNested table →
-    IsPage style table layout one → IsPage style table layout other → one ≡ other
-one_page style table layout one other flat is are = by_depth is.0 are.0 is.1 are.1 where
-  by_depth : (deep depth : ℕ) → ShowsWithin deep style table layout one → ShowsWithin depth style table layout other → one ≡ other
+pub one_page : (look : Look) (table : Table) (layout : Layout) (one other : List (List ℕ)) → HasNoNested table →
+    IsPage look table layout one → IsPage look table layout other → one ≡ other
+one_page look table layout one other flat is are = by_depth is.0 are.0 is.1 are.1 where
+  by_depth : (deep depth : ℕ) → ShowsWithin deep look table layout one → ShowsWithin depth look table layout other → one ≡ other
   by_depth zero depth shown drawn = absurd shown
   by_depth (suc deep) zero shown drawn = absurd drawn
   by_depth (suc deep) (suc depth) shown drawn =
-      shown.drawn ∙ ap (λ (lines : List (List Line)). lines_of (picture style (grid_of (out-Table table)) (out-Layout layout).widths
+      shown.drawn ∙ ap (λ (lines : List (List Line)). lines_of (picture look.style (grid_of (out-Table table)) (out-Layout layout).widths
       (out-Layout layout).heights lines))
-      (one_contents (ShowsWithin deep style) (ShowsWithin depth style) style (out-Layout layout) (out-Table table).cells
+      (one_contents (ShowsWithin deep look) (ShowsWithin depth look) look (out-Table table) (out-Layout layout) (out-Table table).cells
       shown.contents drawn.contents flat shown.cells drawn.cells)
       ∙ sym drawn.drawn

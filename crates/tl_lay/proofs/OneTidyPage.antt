@@ -35,6 +35,7 @@ use Rattle.tl_narrow.specs.Slims.{IsKept, IsLowCertificate}
 use Rattle.tl_narrow.specs.SlimLaws.{MetIsSlimmest}
 use Rattle.tl_tidy.specs.Classes.{IsChosen}
 use Rattle.tl_tidy.proofs.NeedLaws.{chosen-unique}
+use Rattle.tl_page.specs.declared.look.Look.{Look}
 use Rattle.tl_page.specs.Pages.{IsPage, page_bytes}
 use Rattle.tl_page.specs.Trimmed as trims
 use Rattle.tl_html.specs.Html as html
@@ -45,7 +46,7 @@ use Rattle.tl_lay.specs.declared.format.Format.{Format}
 use Rattle.tl_lay.specs.declared.format.Format.TheVariants as formats
 use Rattle.tl_lay.specs.declared.task.Task.{Task}
 use Rattle.tl_lay.specs.declared.tidiest.Ending.{Ending}
-use Rattle.tl_lay.specs.Answers.{IsLaidAs, IsPageFile, bounded_laid, lowest_laid, narrow_laid}
+use Rattle.tl_lay.specs.Answers.{IsLaidAs, IsPageFile, bounded_laid, look_of, lowest_laid, narrow_laid}
 use Rattle.tl_lay.specs.Budgets.{budget_in}
 use Rattle.tl_lay.specs.Flat.{HasNoNested}
 use Rattle.tl_lay.specs.Slimmed.{IsPageOfKept}
@@ -140,17 +141,18 @@ one_chosen format style table height width one other flat is are = by_format for
   same_layout = sym (roll-out-Layout is.layout)
       ∙ ap roll-Layout (is.laid ∙ ap layout_of placed ∙ sym are.laid) ∙ roll-out-Layout are.layout
 
-  same_lines : (lines more : List (List ℕ)) → IsPage style table is.layout lines → IsPage style table are.layout more →
-      lines ≡ more
-  same_lines lines more drawn shown = one_page style table are.layout lines more flat
-      (subst (λ (l : Layout). IsPage style table l lines) same_layout drawn) shown
+  same_lines : (look : Look) (lines more : List (List ℕ)) → IsPage look table is.layout lines →
+      IsPage look table are.layout more → lines ≡ more
+  same_lines look lines more drawn shown = one_page look table are.layout lines more flat
+      (subst (λ (l : Layout). IsPage look table l lines) same_layout drawn) shown
 
   by_format : (one_format : Format) → IsPageFile one_format style table is.layout one →
       IsPageFile one_format style table are.layout other → one ≡ other
-  by_format formats.Text (lines, drawn, same) (more, shown, also) =
-      same ∙ ap page_bytes (same_lines lines more drawn shown) ∙ sym also
-  by_format formats.Trimmed (lines, drawn, same) (more, shown, also) =
-      same ∙ ap (λ (page : List (List ℕ)). page_bytes (map trims.trimmed page)) (same_lines lines more drawn shown) ∙ sym also
+  by_format (formats.Text align) (lines, drawn, same) (more, shown, also) =
+      same ∙ ap page_bytes (same_lines (look_of style align) lines more drawn shown) ∙ sym also
+  by_format (formats.Trimmed align) (lines, drawn, same) (more, shown, also) =
+      same ∙ ap (λ (page : List (List ℕ)). page_bytes (map trims.trimmed page))
+      (same_lines (look_of style align) lines more drawn shown) ∙ sym also
   by_format formats.Html (same, drawn) (also, shown) = same ∙ ap (html.html_bytes table) same_layout ∙ sym also
 
 -- a certificate that keeps the chosen placement names its layout

@@ -29,10 +29,12 @@ use Rattle.tl_html.specs.Html as html
 use Rattle.tl_html.specs.Readable.{IsHtmlPage, SpellsAlike}
 use Rattle.tl_narrow.specs.Slimmest.{IsBelowCounts}
 use Rattle.tl_nested.specs.Searched.{AreSectionsOf}
+use Rattle.tl_page.specs.declared.look.Look.{Look}
 use Rattle.tl_page.specs.Pages.{IsPage}
 use Rattle.tl_page.specs.Pages as pages
 use Rattle.tl_page.specs.Standing.{HoldsAllText}
 use Rattle.tl_page.specs.Trimmed.{IsTrimmedPage, trimmed}
+use Rattle.tl_sides.specs.declared.align.Align.{Align}
 use Rattle.tl_lay.specs.declared.answer.Answer.{Answer}
 use Rattle.tl_lay.specs.declared.answer.Answer.TheVariants as answers
 use Rattle.tl_lay.specs.declared.format.Format.{Format}
@@ -43,20 +45,29 @@ use Rattle.tl_lay.specs.Inputs.{IsOfBytes}
 
 -- ---- the files
 
+-- how a page of this style looks, with the lines of its cells on these sides
+abbrev pub look_of : Style → Align → Look
+look_of style align = record { style = style; align = align }
+
 -- the file of the page: in text, with or without the spaces at the ends of its lines, or as HTML
 abbrev pub IsPageFile : Format → Style → Table → Layout → List ℕ → Type 0
-IsPageFile formats.Text style table layout bytes = (lines : List (List ℕ)) × IsPage style table layout lines
+IsPageFile (formats.Text align) style table layout bytes = (lines : List (List ℕ)) × IsPage (look_of style align) table layout lines
     × (bytes ≡ pages.page_bytes lines)
-IsPageFile formats.Trimmed style table layout bytes = IsTrimmedPage style table layout bytes
+IsPageFile (formats.Trimmed align) style table layout bytes = IsTrimmedPage (look_of style align) table layout bytes
 IsPageFile formats.Html style table layout bytes = (bytes ≡ html.html_bytes table layout) × IsHtmlPage table layout bytes
 
--- a page of the table in a layout, with all its text: so many lines, on which each unit of each cell stands whole and in
--- order, as they are or without the spaces at their ends; or HTML, which spells the same table
+-- these lines are a page of the table in the layout, so many, on which each unit of each cell stands whole and in order
+abbrev pub AreWholeLines : Look → Table → ℕ → Layout → List (List ℕ) → Type 0
+AreWholeLines look table height layout lines =
+    IsPage look table layout lines × HoldsAllText look table layout lines × (length lines ≡ height)
+
+-- a page of the table in a layout, with all its text: its lines, as they are or without the spaces at their ends; or HTML,
+-- which spells the same table
 abbrev pub IsWholePage : Format → Style → Breaking → Table → ℕ → Layout → List ℕ → Type 0
-IsWholePage formats.Text style breaking table height layout page = (lines : List (List ℕ)) × IsPage style table layout lines
-    × HoldsAllText style table layout lines × (length lines ≡ height) × (page ≡ pages.page_bytes lines)
-IsWholePage formats.Trimmed style breaking table height layout page = (lines : List (List ℕ)) × IsPage style table layout lines
-    × HoldsAllText style table layout lines × (length lines ≡ height) × (page ≡ pages.page_bytes (map trimmed lines))
+IsWholePage (formats.Text align) style breaking table height layout page = (lines : List (List ℕ))
+    × AreWholeLines (look_of style align) table height layout lines × (page ≡ pages.page_bytes lines)
+IsWholePage (formats.Trimmed align) style breaking table height layout page = (lines : List (List ℕ))
+    × AreWholeLines (look_of style align) table height layout lines × (page ≡ pages.page_bytes (map trimmed lines))
 IsWholePage formats.Html style breaking table height layout page = IsHtmlPage table layout page × SpellsAlike page breaking table
 
 -- the file of the certificate, where it is asked for

@@ -9,7 +9,7 @@ ghost use Rattle.tl_form.specs.Expected.{IsDocumentOf};
 ghost use Rattle.tl_form.specs.Named.{IsLastPlacement};
 ghost use Rattle.tl_table.specs.Sound.{IsSound};
 ghost use Rattle.tl_form.specs.Subjects.{meant};
-ghost use Rattle.tl_lay.specs.Answers.{IsLaid, IsLaidAs, IsPageFile, IsReadable, certificate_file};
+ghost use Rattle.tl_lay.specs.Answers.{IsLaid, IsLaidAs, IsPageFile, IsReadable, certificate_file, look_of};
 ghost use Rattle.tl_lay.specs.Inputs.{IsTaskInRange, IsUsableTable};
 ghost use Rattle.tl_lay.specs.Lowest.{Lays};
 ghost use Rattle.tl_lay.specs.inner.Claims.{answer_of};
@@ -35,8 +35,9 @@ use tl_form::{
 use tl_html::html;
 use tl_narrow::{certificate_of, narrow_certificate};
 use tl_nested::LaidSections;
-use tl_page::{page, trimmed_page};
+use tl_page::{Look, page, trimmed_page};
 use tl_problem::Placed;
+use tl_sides::Align;
 use tl_solve::Watcher;
 use tl_table::{Layout, Table};
 
@@ -263,9 +264,19 @@ pub fn page_file(
     ensures { IfOk result (IsPageFile task.now.format task.now.style table.now layout.now) }
 {
     match task.format {
-        Format::Text => page(alloc, table, task.style, layout),
-        Format::Trimmed => trimmed_page(alloc, table, task.style, layout),
+        Format::Text(align) => page(alloc, table, look_of(task, align), layout),
+        Format::Trimmed(align) => trimmed_page(alloc, table, look_of(task, align), layout),
         Format::Html => html(alloc, table, layout),
+    }
+}
+
+/// How the page of the task looks, with the lines of its cells on these sides.
+fn look_of(task: &Task, align: Align) -> Look
+    ensures { result ≡ look_of task.now.style align }
+{
+    Look {
+        style: task.style,
+        align,
     }
 }
 

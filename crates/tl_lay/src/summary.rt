@@ -28,6 +28,7 @@ use tl_form::{Due, Subject};
 use tl_narrow::certificate_of;
 use tl_nested::{LaidSections, problem_at};
 use tl_read::{Source, read};
+use tl_sides::{Align, Sides};
 use tl_solve::Watcher;
 use tl_table::Table;
 use tl_verify::verify;
@@ -58,7 +59,7 @@ fn task() -> Task
         budget: Some(DEMO_BUDGET),
         search: Search::Best,
         workers: 1,
-        format: Format::Text,
+        format: Format::Text(Align::Columns(Sides::none())),
         certified: true,
     }
 }

@@ -1,6 +1,7 @@
 -- The definitions on small cases.
 use Rattle.std.proofs.Common.{◌≡◌, ℕ, List, [], ◌∷◌, ◌++◌, codes, decimal, Some, None, false, true, refl}
 use Rattle.tl_base.specs.declared.breaking.Breaking.TheVariants.{Words, Wider}
+use Rattle.tl_sides.specs.declared.align.Align.TheVariants as aligns
 use Rattle.tl_command.specs.declared.options.BreakRule.TheVariants as rules
 use Rattle.tl_read.specs.declared.refusal.RecordFault.TheVariants as records
 use Rattle.tl_read.specs.declared.source.Source.TheVariants.{Csv, Html}
@@ -49,6 +50,7 @@ no_options = record {
   csv = false;
   head = false;
   least = None;
+  align = None;
   trim = false;
   html = false;
 }
@@ -123,6 +125,7 @@ lay_csv = record {
     csv = true;
     head = true;
     least = Some (5 ∷ []);
+    align = None;
     trim = false;
     html = false;
   };
@@ -135,13 +138,13 @@ html_source : (task_of lay_three).source ≡ Html Words
 html_source = refl
 
 -- a page is text with the spaces at the ends of its lines, unless `--trim` or `--html` is given; with both it is HTML
-as_laid : (task_of lay_three).format ≡ formats.Text
+as_laid : (task_of lay_three).format ≡ formats.Text (aligns.Columns [])
 as_laid = refl
 
-without_spaces : format_by true false ≡ formats.Trimmed
+without_spaces : format_by aligns.Auto true false ≡ formats.Trimmed aligns.Auto
 without_spaces = refl
 
-html_alone : format_by true true ≡ format_by false true
+html_alone : format_by aligns.Auto true true ≡ format_by (aligns.Columns []) false true
 html_alone = refl
 
 -- the message of a record with another number of fields

@@ -33,6 +33,7 @@ with_effort budget search workers asked = record {
     csv = asked.options.csv;
     head = asked.options.head;
     least = asked.options.least;
+    align = asked.options.align;
     trim = asked.options.trim;
     html = asked.options.html;
   };

@@ -45,6 +45,7 @@ with_rule rule asked = record {
     csv = asked.options.csv;
     head = asked.options.head;
     least = asked.options.least;
+    align = asked.options.align;
     trim = asked.options.trim;
     html = asked.options.html;
   };

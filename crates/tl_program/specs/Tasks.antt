@@ -12,6 +12,8 @@ use Rattle.tl_command.specs.declared.options.BreakRule.{BreakRule}
 use Rattle.tl_command.specs.declared.options.BreakRule.TheVariants as rules
 use Rattle.tl_read.specs.declared.source.Source.{Source}
 use Rattle.tl_read.specs.declared.source.Source.TheVariants.{Html, Csv}
+use Rattle.tl_sides.specs.declared.align.Align.{Align}
+use Rattle.tl_sides.specs.declared.align.Align.TheVariants as aligns
 use Rattle.tl_lay.specs.declared.format.Format.{Format}
 use Rattle.tl_lay.specs.declared.format.Format.TheVariants as formats
 use Rattle.tl_lay.specs.declared.task.Task.{Task}
@@ -45,15 +47,16 @@ source_by false head floors breaking = Html breaking
 abbrev pub source_of : Asked → Source
 source_of asked = source_by asked.options.csv asked.options.head (given_or [] asked.options.least) (breaking_of asked)
 
--- how the page is written: as HTML, of which no space can be left out, or else as text, with or without the spaces at the ends
--- of its lines
-abbrev pub format_by : Bool → Bool → Format
-format_by trim true = formats.Html
-format_by true false = formats.Trimmed
-format_by false false = formats.Text
+-- how the page is written: as HTML, of which no space can be left out and which has no sides, or else as text, with or without
+-- the spaces at the ends of its lines
+abbrev pub format_by : Align → Bool → Bool → Format
+format_by align trim true = formats.Html
+format_by align true false = formats.Trimmed align
+format_by align false false = formats.Text align
 
+-- where no sides are given all lines stand at the left
 abbrev pub format_of : Asked → Format
-format_of asked = format_by asked.options.trim asked.options.html
+format_of asked = format_by (given_or (aligns.Columns []) asked.options.align) asked.options.trim asked.options.html
 
 -- what is asked of the table, for pages of so many columns at most
 abbrev pub task_on : ℕ → Asked → Task

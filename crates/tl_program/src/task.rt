@@ -3,7 +3,8 @@
 ghost use Rattle.std.specs.Prelude.{◌≡◌, []};
 ghost use Rattle.tl_command.specs.Ask.{asked_by};
 ghost use Rattle.tl_command.specs.declared.options.BreakRule.TheVariants as rules;
-ghost use Rattle.tl_program.specs.Tasks.{breaking_by, format_by, given_or, source_by, task_of, task_on};
+ghost use Rattle.tl_sides.specs.declared.align.Align.TheVariants.{Columns};
+ghost use Rattle.tl_program.specs.Tasks.{breaking_by, format_by, format_of, given_or, source_by, task_of, task_on};
 
 use crate::names::certificate_name;
 use tl_base::{Breaking, Search, Style};
@@ -11,6 +12,7 @@ use tl_command::{Ask, BreakRule, Options};
 use tl_floors::Floors;
 use tl_lay::{Format, Task};
 use tl_read::Source;
+use tl_sides::{Align, Sides};
 
 /// How paragraphs are broken into lines where these words may break; they are whole before it is found which may.
 fn breaking_by(rule: BreakRule) -> Breaking
@@ -41,17 +43,25 @@ fn source_of(options: &Options) -> Source
     }
 }
 
-/// How the page is written. HTML has no spaces to be left out.
-fn format_of(options: &Options) -> Format
-    ensures { result ≡ format_by options.now.trim options.now.html }
+/// How the page is written. HTML has no spaces to be left out, and no sides.
+fn format_by(options: &Options) -> Format
+    ensures { result ≡ format_by (given_or (Columns []) options.now.align) options.now.trim options.now.html }
 {
+    let align = options.align.unwrap_or(Align::Columns(Sides::none()));
     if options.html {
         Format::Html
     } else if options.trim {
-        Format::Trimmed
+        Format::Trimmed(align)
     } else {
-        Format::Text
+        Format::Text(align)
     }
+}
+
+/// How the page that is asked for is written.
+fn format_of(ask: &Ask<'_>) -> Format
+    ensures { result ≡ format_of (asked_by ask.now) }
+{
+    format_by(&ask.options)
 }
 
 /// What is asked of a table: the number is the width of its page.
@@ -73,7 +83,7 @@ pub fn task_on(ask: &Ask<'_>, width: u32) -> Task
         budget: options.budget,
         search: options.search.unwrap_or(Search::Best),
         workers: options.workers.unwrap_or(1),
-        format: format_of(options),
+        format: format_of(ask),
         certified: certificate_name(ask).is_some(),
     }
 }

@@ -1,5 +1,5 @@
 -- No public clause cites this file: it says what is asked of the table of a demonstration, and what the count of its problem is.
-use Rattle.std.specs.Prelude.{◌≡◌, ℕ, true, false, List, length, Some}
+use Rattle.std.specs.Prelude.{◌≡◌, ℕ, true, false, List, [], length, Some}
 use Rattle.tl_base.specs.declared.breaking.Breaking.TheVariants.{Words}
 use Rattle.tl_base.specs.declared.style.Style.TheVariants.{Plain}
 use Rattle.tl_cert.specs.declared.section.Section.{Section}
@@ -12,6 +12,7 @@ use Rattle.tl_problem.specs.Problem.{ProblemModel}
 use Rattle.tl_problem.specs.Spans.{count_of}
 use Rattle.tl_lay.specs.declared.limits.TheConstants.{DEMO_BUDGET}
 use Rattle.tl_base.specs.declared.search.Search.TheVariants.{Best}
+use Rattle.tl_sides.specs.declared.align.Align.TheVariants.{Columns}
 use Rattle.tl_lay.specs.declared.format.Format.TheVariants.{Text}
 use Rattle.tl_lay.specs.declared.task.Task.{Task}
 
@@ -24,7 +25,7 @@ demo_task = record {
   budget = Some DEMO_BUDGET;
   search = Best;
   workers = 1;
-  format = Text;
+  format = Text (Columns []);
   certified = true;
 }
 

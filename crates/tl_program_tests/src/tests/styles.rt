@@ -321,6 +321,151 @@ fn an_html_page_is_stored(rt: HostRuntime) -> Result<(), Fail> {
     Ok(())
 }
 
+/// In styles rule and apart the only line stands under the head, with a space in each gap; in style apart an
+/// empty line stands between any two rows below it, through which a cell over both rows goes on.
+const RULED: &[Case<'static>] = &[
+    Case {
+        line: "lay 12 t.html p.txt --style rule",
+        file: HEADED,
+        status: 0,
+        page: Some("ab c \n-- --\nd  ee\n"),
+        certificate: None,
+        message: "lowest height 3 width 5\n",
+    },
+    Case {
+        line: "lay 5 t.html p.txt --style rule",
+        file: TITLED,
+        status: 0,
+        page: Some("cap\nabc\n- -\nx y\nz  \n"),
+        certificate: None,
+        message: "lowest height 5 width 3\n",
+    },
+    Case {
+        line: "lay 5 t.html p.txt --style apart",
+        file: TITLED,
+        status: 0,
+        page: Some("cap\nabc\n- -\nx y\n   \nz  \n"),
+        certificate: None,
+        message: "lowest height 6 width 3\n",
+    },
+    Case {
+        line: "lay 12 t.html p.txt --style rule",
+        file: TWO,
+        status: 0,
+        page: Some("aaa cc dd\nbbb ee   \n"),
+        certificate: None,
+        message: "lowest height 2 width 9\n",
+    },
+    Case {
+        line: "lay 1 t.html p.txt --style apart",
+        file: "<table><tr><td>a<tr><td>b c</table>",
+        status: 0,
+        page: Some("a\n \nb\nc\n"),
+        certificate: None,
+        message: "lowest height 4 width 1\n",
+    },
+    Case {
+        line: "lay 3 t.html p.txt --style apart",
+        file: "<table><tr><td rowspan=2>a b c<td>x<tr><td>y</table>",
+        status: 0,
+        page: Some("a x\nb  \nc y\n"),
+        certificate: None,
+        message: "lowest height 3 width 3\n",
+    },
+    Case {
+        line: "tidy 80 t.html p.txt --csv --head --style apart",
+        file: "a,b\nccc,d\ne,f\n",
+        status: 0,
+        page: Some("a   b\n--- -\nccc d\n     \ne   f\n"),
+        certificate: None,
+        message: "tidy height 5 width 5\n",
+    },
+    Case {
+        line: "narrow 3 t.html p.txt --style rule",
+        file: HEADED,
+        status: 0,
+        page: Some("ab c \n-- --\nd  ee\n"),
+        certificate: None,
+        message: "slimmest width 5 height 3\n",
+    },
+    Case {
+        line: "lay 3 t.html p.txt c.txt --style apart",
+        file: "<table><tr><th>ab<th>c</table>",
+        status: 4,
+        page: None,
+        certificate: Some("tablelayout 1 3 apart 5000\nnarrow 4\nchain 0 0 1\nend\n"),
+        message: "narrow least 4 width 3\n",
+    },
+];
+
+#[test]
+fn a_line_stands_under_the_head_and_rows_stand_apart(rt: HostRuntime) -> Result<(), Fail> {
+    for case in RULED {
+        check(&rt, case)?;
+    }
+    Ok(())
+}
+
+/// Lines of cells stand at the sides that are asked for. Nothing else changes.
+const SIDED: &[Case<'static>] = &[
+    Case {
+        line: "lay 12 t.html p.txt --style compact --align l,r",
+        file: TWO,
+        status: 0,
+        page: Some("aaa cc dd\nbbb    ee\n"),
+        certificate: None,
+        message: "lowest height 2 width 9\n",
+    },
+    Case {
+        line: "lay 80 t.html p.txt --csv --head --style rule --align auto",
+        file: "a,bb\nx,10\nyy,9\n",
+        status: 0,
+        page: Some("a  bb\n-- --\nx  10\nyy  9\n"),
+        certificate: None,
+        message: "lowest height 4 width 5\n",
+    },
+    Case {
+        line: "lay 80 t.html p.txt --csv --style compact --align auto",
+        file: "a,-\n10,9\n",
+        status: 0,
+        page: Some("a  -\n10 9\n"),
+        certificate: None,
+        message: "lowest height 2 width 4\n",
+    },
+    Case {
+        line: "lay 80 t.html p.txt --csv --style compact --align c",
+        file: "abc,d\nx,e\nyz,f\n",
+        status: 0,
+        page: Some("abc d\n x  e\nyz  f\n"),
+        certificate: None,
+        message: "lowest height 3 width 5\n",
+    },
+    Case {
+        line: "tidy 20 t.html p.txt --align r --trim",
+        file: "<table><tr><td>aa<td>bbb<tr><td>c<td>d<tr><td>ee</table>",
+        status: 0,
+        page: Some("aa  bbb\n c  d\nee\n"),
+        certificate: None,
+        message: "tidy height 3 width 7\n",
+    },
+    Case {
+        line: "narrow 3 t.html p.txt --style compact --align r",
+        file: TWO,
+        status: 0,
+        page: Some("aaa cc\nbbb dd\n    ee\n"),
+        certificate: None,
+        message: "slimmest width 6 height 3\n",
+    },
+];
+
+#[test]
+fn lines_of_cells_stand_at_their_sides(rt: HostRuntime) -> Result<(), Fail> {
+    for case in SIDED {
+        check(&rt, case)?;
+    }
+    Ok(())
+}
+
 /// With `--trim` lines end without spaces. Nothing else changes: neither the layout nor the numbers.
 const TRIMMED: &[Case<'static>] = &[
     Case {
