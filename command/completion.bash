@@ -5,7 +5,7 @@
 _tablelayout_options() {
     case $1 in
     show | lay | narrow | tidy | preview | check) echo --style --break --budget --workers --csv --head --least ;;&
-    show | lay | narrow | tidy | preview) echo --solver --trim --html ;;&
+    show | lay | narrow | tidy | preview) echo --solver --align --trim --html ;;&
     show | lay | narrow | tidy | batch | preview) echo --progress ;;&
     show | page) echo --width ;;&
     show)
@@ -19,8 +19,9 @@ _tablelayout_options() {
 # Prints the words of which one follows an option.
 _tablelayout_values() {
     case $1 in
-    --style) echo plain compact frame grid box ;;
+    --style) echo plain compact rule apart frame grid box ;;
     --break) echo words any fit ;;
+    --align) echo auto ;;
     --solver) echo plain best learn rounds ;;
     esac
 }

@@ -1,5 +1,5 @@
 #!/usr/bin/env python3
-"""Reads pages in style grid as tables again, and compares these with the tables that were laid out.
+"""Reads pages in styles grid and rule as tables again, and compares these with the tables that were laid out.
 
     tests/again.py docutils|pandoc FOLDER
 
@@ -7,7 +7,8 @@
 full stop. `again/NAME.cells` has the table: the rows of its head, and on a line for each cell its first row and column,
 counted from 0, the rows and columns that it covers, and its text. A slot that no cell covers is an empty cell here. Texts are
 compared without white space, as lines and broken words part them. pandoc 2.17 reads no grid table with spans, with a head
-of more rows or with an empty row or column, so only the others are read by it.
+of more rows or with an empty row or column, so only the others are read by it. A page whose name ends with `.rule` is in style
+rule, and read by pandoc alone, as a simple table: such has at least two columns, a head of one row and a line for each row.
 
 If all are the same this prints nothing; otherwise it prints the pages that are not, and ends with 1. It ends with 3 where the
 reader is missing.
@@ -65,6 +66,19 @@ def is_simple(table: Table) -> bool:
     return (table.head <= 1 and all((it.rows, it.columns) == (1, 1) for it in table.cells)
             and {it.row for it in filled} == {it.row for it in table.cells}
             and {it.column for it in filled} == {it.column for it in table.cells})
+
+
+def is_ruled(name: str) -> bool:
+    """Whether the page is in style rule."""
+    return name.endswith(".rule")
+
+
+def is_simple_page(name: str, page: str, table: Table) -> bool:
+    """Whether it is a page of the kind that pandoc 2.17 reads."""
+    if not is_simple(table):
+        return False
+    rows, columns = (1 + max(getattr(it, axis) for it in table.cells) for axis in ("row", "column"))
+    return not is_ruled(name) or (table.head == 1 and columns > 1 and len(page.splitlines()) == rows + 1)
 
 
 def placed(rows: Iterable[List[Tuple[int, int, str]]]) -> Iterator[Cell]:
@@ -144,7 +158,12 @@ def main(reader: str, folder: Path) -> int:
     tables = {it.stem: read_table(it) for it in sorted(TABLES.glob("*.cells"))}
     pages = {it.name: it.read_text(encoding="utf-8") for it in sorted(folder.iterdir())}
     if reader == "pandoc":
-        pages = {name: page for name, page in pages.items() if is_simple(tables[name.split(".")[0]])}
+        pages = {name: page for name, page in pages.items() if is_simple_page(name, page, tables[name.split(".")[0]])}
+        if not any(map(is_ruled, pages)):
+            print("no page in style rule is read again")
+            return 1
+    else:
+        pages = {name: page for name, page in pages.items() if not is_ruled(name)}
     found = READERS[reader](pages)
     failed = 0
     for name, page in pages.items():

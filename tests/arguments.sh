@@ -92,6 +92,8 @@ is_told "tablelayout: option '--budget' does not take '100001'" lay 10 in.html p
 is_told "tablelayout: option '--least' does not take '5,'" lay 10 in.html page --csv --least 5,
 is_told "tablelayout: command 'check' does not take '--html'" check 10 in.html cert --html
 is_told "tablelayout: command 'check' does not take '--trim'" check 10 in.html cert --trim
+is_told "tablelayout: command 'check' does not take '--align'" check 10 in.html cert --align l
+is_told "tablelayout: option '--align' does not take 'lr'" lay 10 in.html page --align lr
 is_told "tablelayout: command 'check' does not take '--solver'" check 10 in.html cert --solver best
 is_told "tablelayout: command 'batch' takes no other words" batch 1
 is_told "tablelayout: command 'batch' takes no other words" batch --workers 4

@@ -130,8 +130,9 @@ def drawn_source(draw: random.Random) -> Tuple[bytes, List[Option]]:
 
 
 CHOICES: Tuple[Tuple[str, Tuple[str, ...]], ...] = (
-    ("--style", ("plain", "compact", "frame", "grid", "box")), ("--break", ("words", "any", "fit", "0", "12")), ("--budget", ("0", "2", "50", "100000")),
-    ("--solver", ("plain", "best", "learn", "rounds")), ("--workers", ("1", "2", "4")))
+    ("--style", ("plain", "compact", "rule", "apart", "frame", "grid", "box")), ("--break", ("words", "any", "fit", "0", "12")), ("--budget", ("0", "2", "50", "100000")),
+    ("--solver", ("plain", "best", "learn", "rounds")), ("--workers", ("1", "2", "4")),
+    ("--align", ("l", "r,c,l", "auto")))
 
 
 def drawn_options(draw: random.Random) -> List[Option]:
@@ -158,7 +159,7 @@ def changed(draw: random.Random, certificate: bytes) -> bytes:
 
 def checks_of(draw: random.Random, request: Request, result: Result) -> Iterator[Request]:
     """Requests to check what the command stored, on some page, and a change of it."""
-    options = tuple(it for it in request.options if it[0] not in ("--trim", "--html", "--solver"))
+    options = tuple(it for it in request.options if it[0] not in ("--align", "--trim", "--html", "--solver"))
     for certificate in filter(None, result.stored[1:]):
         # The second word of its second line, or of its first, is the width of its page.
         width = int(certificate.split()[2])
@@ -329,7 +330,7 @@ NO_REQUESTS = (
     b"lay 9 --style none 42", b"lay 9 --style --cert 42", b"lay 9 --budget 100001 42", b"lay 9 --budget 01 42", b"lay 9 --solver none 42",
     b"lay 9 --workers 0 42", b"lay 9 --workers 17 42", b"lay 9 --csv --least 1, 42", b"lay 9 --style compact --style compact 42",
     b"lay 9 --csv --csv 42", b"lay 9 --head 42", b"lay 9 --least 1 42", b"check 9 --cert 42 0", b"check 9 --html 42 0",
-    b"check 9 --trim 42 0", b"lay 9 --trim --trim 42",
+    b"check 9 --trim 42 0", b"lay 9 --trim --trim 42", b"check 9 --align l 42 0", b"lay 9 --align l, 42", b"lay 9 --align auto --align l 42",
     b"check 9 --solver best 42 0",
     # Long lines.
     b"x" * MOST_LINE, b"x" * (MOST_LINE + 1), b"lay 9 " + b"0" * MOST_LINE + b"42", b"lay " * 900, b"x" * 100_000,

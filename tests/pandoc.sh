@@ -43,6 +43,13 @@ with_filter columns.md -M tablelayout-style=frame 2>&1 | expect frame.txt "in a 
 printf '| a | b |\n|---|---|\n| c | d |\n' >"$room/made/head.md"
 with_filter "$room/made/head.md" -M tablelayout-style=grid 2>&1 | expect_text $'+-+-+\n|a|b|\n+=+=+\n|c|d|\n+-+-+' "in a grid"
 with_filter "$room/made/head.md" -M tablelayout-style=box 2>&1 | expect_text $'┌─┬─┐\n│a│b│\n╞═╪═╡\n│c│d│\n└─┴─┘' "in a box"
+with_filter "$room/made/head.md" -M tablelayout-style=apart 2>&1 | expect_text $'a b\n- -\nc d' "with rows apart"
+printf '| a | no |\n|:-:|---:|\n| bbbb bbbb bbbb bbbb bbbb bbbb | 5 |\n' >"$room/made/sides.md"
+with_filter "$room/made/sides.md" --columns 20 2>&1 |
+    expect_text $'      a        no\n-------------- --\nbbbb bbbb bbbb  5\nbbbb bbbb bbbb' "with sides"
+# What pandoc writes as low stays, unless a style is asked for.
+with_filter "$room/made/head.md" 2>&1 | expect_text $'  a   b\n  --- ---\n  c   d' "of a table that pandoc writes as low"
+with_filter "$room/made/head.md" -M tablelayout-style=rule 2>&1 | expect_text $'a b\n- -\nc d' "with a rule"
 with_filter columns.md -M tablelayout-width=7 2>&1 | expect broken.txt "with broken words"
 for breaking in 0 2 fit; do
     with_filter columns.md -M tablelayout-width=5 -M tablelayout-break="$breaking" 2>&1 |
@@ -50,15 +57,15 @@ for breaking in 0 2 fit; do
 done
 # The path has 10 columns, and its parts have 4 at most: the word of 7 columns stays whole, until the page is too narrow.
 printf '| a | b |\n|---|---|\n| src/lib.rt | harbour |\n' >"$room/made/path.md"
-with_filter "$room/made/path.md" -M tablelayout-width=12 2>&1 | expect_text $'a    b\nsrc/ harbour\nlib.\nrt' "with the path broken"
-with_filter "$room/made/path.md" -M tablelayout-width=11 2>&1 | expect_text $'a      b\nsrc/   harb\nlib.rt our' "with both words broken"
+with_filter "$room/made/path.md" -M tablelayout-width=12 2>&1 | expect_text $'a    b\n---- -------\nsrc/ harbour\nlib.\nrt' "with the path broken"
+with_filter "$room/made/path.md" -M tablelayout-width=11 2>&1 | expect_text $'a      b\n------ ----\nsrc/   harb\nlib.rt our' "with both words broken"
 with_filter columns.md -M tablelayout-width=7 -M tablelayout-break=3 2>&1 | expect broken.txt "with words of 3 columns whole"
 for other in some 501 03; do
     with_filter columns.md -M tablelayout-break="$other" 2>&1 >"$room/page" | grep -o "tablelayout-break is .*" |
         expect_text "tablelayout-break is $other, and has to be words, any, fit or from 0 to 500" "of no breaking"
 done
 with_filter columns.md -M tablelayout-style=some 2>&1 >"$room/page" | grep -o "tablelayout-style is .*" |
-    expect_text "tablelayout-style is some, and has to be one of plain, compact, frame, grid, box" "of no style"
+    expect_text "tablelayout-style is some, and has to be one of plain, compact, rule, apart, frame, grid, box" "of no style"
 with_filter columns.md -M tablelayout-width=501 2>&1 >"$room/page" | grep -o "tablelayout-width is .*" |
     expect_text "tablelayout-width is 501, and has to be from 1 to 500" "of too wide a page"
 
@@ -84,7 +91,7 @@ with_filter ships.html -t rst 2>"$room/said" | expect <(pandoc ships.html -t rst
 expect_text "tablelayout: tables stay as pandoc writes them, since rst is no format of text" "on standard error of rst" <"$room/said"
 
 # A noncharacter in a cell stays, also where spaces of code are kept.
-with_filter -f markdown <<<$'| \xef\xb7\x90a | `b  c` |\n|---|---|\n| \xef\xb7\x91 | d |' 2>&1 |
+with_filter -f markdown -M tablelayout-style=compact <<<$'| \xef\xb7\x90a | `b  c` |\n|---|---|\n| \xef\xb7\x91 | d |' 2>&1 |
     expect_text $'\xef\xb7\x90a b  c\n\xef\xb7\x91  d' "of noncharacters"
 
 # Other programs that the environment names. The first makes no cuts.

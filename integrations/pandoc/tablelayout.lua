@@ -14,13 +14,17 @@ PANDOC_VERSION:must_be_at_least("2.17")
 
 local MOST_COLUMNS = 500
 local MOST_SPAN = 1000
+local MOST_SIDES = 60
 local STATUS_LOWEST, STATUS_BOUNDED, STATUS_NARROW, STATUS_MEMORY = 0, 3, 4, 9
 local REPLACEMENT = "\u{FFFD}"
 -- A page is text where pandoc writes text itself, and a block of code where it writes markdown.
 local TEXT_FORMATS = { plain = true, ansi = true }
 local MARKDOWN_FORMATS = { commonmark = true, commonmark_x = true, gfm = true }
-local STYLES = { "plain", "compact", "frame", "grid", "box" }
+local STYLES = { "plain", "compact", "rule", "apart", "frame", "grid", "box" }
+local USUAL_STYLE = "rule"
 local BREAKS = { "words", "any", "fit" }
+-- How the program spells on which side a column stands; where pandoc knows none, it is the left.
+local SIDES = { AlignLeft = "l", AlignRight = "r", AlignCenter = "c" }
 
 local is_text = TEXT_FORMATS[FORMAT]
 local is_markdown = MARKDOWN_FORMATS[FORMAT] or FORMAT:match("^markdown") ~= nil
@@ -267,8 +271,9 @@ function add_flow(out, blocks)
     end_run()
 end
 
--- Adds the rows of a section. As in pandoc's tables a cell covers only places that are free, and ends with the section.
-local function add_rows(out, rows, header_columns)
+-- Adds the rows of a section, and to `begun` the columns in which a cell begins. As in pandoc's tables a cell covers
+-- only places that are free, and ends with the section.
+local function add_rows(out, rows, header_columns, begun)
     -- For each column in how many more rows the cell above covers it.
     local covered = {}
     for number, row in ipairs(rows) do
@@ -282,6 +287,7 @@ local function add_rows(out, rows, header_columns)
             while width < math.min(cell.col_span, MOST_SPAN) and (covered[column + width] or 0) == 0 do
                 width = width + 1
             end
+            begun[column] = true
             local tag = column <= header_columns and "th" or "td"
             out:insert(string.format("<%s colspan=%d rowspan=%d>", tag, width, height))
             add_flow(out, cell.contents)
@@ -298,28 +304,57 @@ local function add_rows(out, rows, header_columns)
     end
 end
 
-local function add_section(out, tag, rows, header_columns)
+local function add_section(out, tag, rows, header_columns, begun)
     if #rows > 0 then
         out:insert("<" .. tag .. ">\n")
-        add_rows(out, rows, header_columns)
+        add_rows(out, rows, header_columns, begun)
         out:insert("</" .. tag .. ">\n")
     end
 end
 
+-- Whether a row has a cell with something in it.
+local function has_text(row)
+    return pandoc.List(row.cells):find_if(function(cell)
+        return #cell.contents > 0
+    end)
+end
+
+-- Adds a table, and returns the columns in which a cell begins.
 function add_table(out, block)
+    local begun = {}
+    -- Some readers give a table without a head a row of nothing.
+    local has_head = pandoc.List(block.head.rows):find_if(has_text)
     out:insert("<table>\n")
     if #block.caption.long > 0 then
         out:insert("<caption>")
         add_flow(out, block.caption.long)
         out:insert("</caption>\n")
     end
-    add_section(out, "thead", block.head.rows, math.huge)
+    add_section(out, "thead", has_head and block.head.rows or {}, math.huge, begun)
     for _, body in ipairs(block.bodies) do
-        add_section(out, "tbody", body.head, math.huge)
-        add_section(out, "tbody", body.body, body.row_head_columns)
+        add_section(out, "tbody", body.head, math.huge, begun)
+        add_section(out, "tbody", body.body, body.row_head_columns, begun)
     end
-    add_section(out, "tfoot", block.foot.rows, 0)
+    add_section(out, "tfoot", block.foot.rows, 0, begun)
     out:insert("</table>\n")
+    return begun
+end
+
+-- On which side each column stands, as the program spells it; nothing where all stand at the left. A column in which
+-- no cell begins is none to the program. Nested tables have sides of their own, which no list can say.
+local function sides_of(block, begun, out)
+    local sides, is_left, tables_begun = {}, true, 0
+    for i, spec in ipairs(block.colspecs) do
+        local side = SIDES[spec[1]] or "l"
+        if begun[i] then
+            table.insert(sides, side)
+            is_left = is_left and side == "l"
+        end
+    end
+    for _, it in ipairs(out) do
+        tables_begun = tables_begun + (it == "<table>\n" and 1 or 0)
+    end
+    return not is_left and tables_begun == 1 and #sides <= MOST_SIDES and table.concat(sides, ",") or nil
 end
 
 -- The HTML of a table that was added: texts, and places of parts.
@@ -401,8 +436,10 @@ local function lay_out(asked)
         return
     end
     local requests = asked:map(function(it)
-        local words = { "lay", it.width, "--style", settings.style, "--break", settings.breaking, #it.html }
-        return table.concat(words, " ") .. "\n" .. it.html
+        local style = settings.style or USUAL_STYLE
+        local words = pandoc.List({ "lay", it.width, "--style", style, "--break", settings.breaking })
+        words:extend(it.sides and { "--align", it.sides } or {})
+        return table.concat(words, " ") .. " " .. #it.html .. "\n" .. it.html
     end)
     local is_done, result = pcall(pandoc.pipe, settings.program, { "batch" }, table.concat(requests))
     -- What it printed, if it ran at all.
@@ -463,10 +500,68 @@ local function page_of(it)
     return (it.page:gsub(blank, " "):gsub(" +\n", "\n"):gsub("\n$", ""))
 end
 
+-- What pandoc writes of a table
+
+-- The rows of a table, of all its sections.
+local function rows_of(block)
+    local rows = pandoc.List({})
+    rows:extend(block.head.rows)
+    for _, body in ipairs(block.bodies) do
+        rows:extend(body.head)
+        rows:extend(body.body)
+    end
+    rows:extend(block.foot.rows)
+    return rows
+end
+
+-- Whether no cell covers more than one place, and none has a table. Others pandoc may write without their spans, or not
+-- at all.
+local function is_simple(block)
+    for _, row in ipairs(rows_of(block)) do
+        for _, cell in ipairs(row.cells) do
+            if cell.row_span ~= 1 or cell.col_span ~= 1 or pandoc.List(cell.contents):find_if(holds_table) then
+                return false
+            end
+        end
+    end
+    return true
+end
+
+-- At most how many columns a line takes: where this pandoc does not measure text, a character that is not of ASCII may
+-- take two.
+local function width_of(line)
+    if pandoc.layout and pandoc.layout.real_length then
+        return pandoc.layout.real_length(line)
+    end
+    return utf8.len(line) + utf8.len((line:gsub("[\0-\127]", "")))
+end
+
+local function letters_in(text)
+    return #text:gsub("[^%w\x80-\xFF]", "")
+end
+
+-- Whether pandoc itself writes a table within the width, no higher than its page, and with as much text.
+local function is_as_low(block, width, page)
+    if not is_simple(block) then
+        return false
+    end
+    local own = pandoc.write(pandoc.Pandoc({ block }), FORMAT, { columns = width })
+    own = own:gsub("\27%[[%d;]*m", ""):gsub("\n+$", "")
+    local height = 0
+    for line in lines_of(own) do
+        height = height + 1
+        if width_of(line) > width then
+            return false
+        end
+    end
+    local _, breaks = page:gsub("\n", "")
+    return height <= breaks + 1 and letters_in(own) >= letters_in(page)
+end
+
 -- Asks for the page of a table. It is there once all are.
 local function ask_for(block, width)
     local it = { number = #tables + 1, width = width, out = pandoc.List({}) }
-    add_table(it.out, block)
+    it.sides = sides_of(block, add_table(it.out, block), it.out)
     tables:insert(it)
     return it
 end
@@ -533,12 +628,17 @@ local function text_block(page)
     return FORMAT == "plain" and pandoc.RawBlock("plain", page) or pandoc.Para({ pandoc.Str(page) })
 end
 
+-- Whether a table stays as pandoc writes it although it has a page, which is no better. Who asks for a style gets it.
+local function is_kept(block, width, page)
+    return not settings.style and is_as_low(block, width, page)
+end
+
 local function lay_out_table(block, width)
     if is_text then
         local asked = ask_for(block, width)
         return function()
             local page = page_of(asked)
-            return { page and text_block(page) or block }
+            return { page and not is_kept(block, width, page) and text_block(page) or block }
         end
     end
     local notes = { count = table_notes.count, blocks = pandoc.List({}) }
@@ -729,7 +829,7 @@ local function lay_out_document(doc)
     end
     settings = {
         program = find_program(),
-        style = choice_setting(doc.meta, "style", STYLES) or "compact",
+        style = choice_setting(doc.meta, "style", STYLES),
         breaking = break_setting(doc.meta),
     }
     parts, tables, table_notes = pandoc.List({}), pandoc.List({}), no_notes()

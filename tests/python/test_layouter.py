@@ -99,6 +99,19 @@ class Answers(unittest.TestCase):
             self.assertEqual((page.text.split("\n")[2], page.width, page.is_lowest), (under, 5, True))
             self.assertEqual(self.layouter.check([["a", "b"], ["c", "d"]], 9, page.certificate, head=True, style=style).claim, "lowest")
 
+    def test_sides(self):
+        rows = [["Item", "Left"], ["rope", "12"], ["lamp oil", "3"]]
+        for align, wanted in ((None, "Item     Left\n-------- ----\nrope     12  \nlamp oil 3   \n"),
+                              ("auto", "Item     Left\n-------- ----\nrope       12\nlamp oil    3\n"),
+                              ("c", "  Item   Left\n-------- ----\n  rope   12  \nlamp oil 3   \n")):
+            page = self.layouter.lay(rows, 72, head=True, style="rule", align=align)
+            self.assertEqual((page.text, page.width, page.is_lowest), (wanted, 13, True))
+            self.assertEqual(self.layouter.check(rows, 72, page.certificate, head=True, style="rule").claim, "lowest")
+        for lay in (self.layouter.narrow, self.layouter.tidy):
+            self.assertEqual(lay(rows, head=True, align="r,r").text.split("\n")[1], "    rope    12")
+        with self.assertRaises(tablelayout.BadRequest):
+            self.layouter.lay(rows, head=True, align="x")
+
     def test_fit(self):
         # Words of 3 columns break, and those of 2 stay whole: columns of 2 and 2, with 2 between them.
         page = self.layouter.lay(html=COLUMNS, width=6, breaking="fit")

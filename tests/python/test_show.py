@@ -93,6 +93,18 @@ class Show(unittest.TestCase):
         ran = show("--csv", "--head", "--style", "grid", data=b"a,b\nc,d\n")
         self.assertEqual(ran.text, "+-+-+\n|a|b|\n+=+=+\n|c|d|\n+-+-+\n")
 
+    def test_sides(self):
+        for more, wanted in (([], "a  b\n- --\nx 10\ny  9\n"), (["--align", "l"], "a b \n- --\nx 10\ny 9 \n"),
+                             (["--align", "r,c"], "a b \n- --\nx 10\ny 9 \n"), (["--style", "compact"], "a  b\nx 10\ny  9\n")):
+            with self.subTest(more=more):
+                self.assertEqual(show("--csv", "--head", *more, data=b"a,b\nx,10\ny,9\n").text, wanted)
+        # One word among the numbers, and the column is none of numbers.
+        self.assertEqual(show("--csv", "--head", data=b"a,b\nx,10\ny,9\nz,-\n").text, "a b \n- --\nx 10\ny 9 \nz - \n")
+        # Values of records stand at the left, whatever the columns of the table are.
+        self.assertEqual(show("--csv", "--head", "--records", data=b"a,bb\n10,9\n").text, "[ 1 ]\na  10\nbb 9 \n")
+        for wrong in ("x", "l,", "lr", "auto,l", ",".join("l" * 61)):
+            self.assertEqual(show("--align", wrong, data=SHIPS).status, 2)
+
     def test_spaces_at_the_ends_of_lines(self):
         for more, wanted in (([], "aaa cc dd\nbbb ee   \n"), (["--trim"], "aaa cc dd\nbbb ee\n")):
             self.assertEqual(show(EXAMPLES / "columns.html", "--width", 9, *more).text, wanted)

@@ -79,6 +79,14 @@ def number_up_to(most: int, least: int = 0) -> Callable[[str], int]:
     return read
 
 
+def alignment(text: str) -> str:
+    """The side of each column, as l,r,c, or auto. Raises ArgumentTypeError."""
+    sides = text.split(",")
+    if text != "auto" and (len(sides) > _MOST_WIDTHS or not all(side in ("l", "r", "c") for side in sides)):
+        raise argparse.ArgumentTypeError(f"{text} is no alignment: auto, or letters of l, r, c for up to {_MOST_WIDTHS} columns, as l,r")
+    return text
+
+
 def breaking(text: str) -> str:
     """How words break, as the program takes it. Raises ArgumentTypeError."""
     if text not in ("words", "any", "fit") and (not text.isascii() or not text.isdigit() or text != str(int(text)) or int(text) > MOST_WIDTH):

@@ -61,7 +61,8 @@ def _lay_records(layouter: Layouter, item: Item, columns: "Columns", way: Way) -
 
     vertical = vertical_of(columns)
     file = file_of(vertical.html)
-    page = layouter.lay_source(Source(file.data), way.width, way.options)
+    # The columns of records are names and values, whatever those of the table are.
+    page = layouter.lay_source(Source(file.data), way.width, way.options._replace(align=None))
     hint = "; --rows chooses others" if item.source.is_rows and not item.more else ""
     more = " and ".join(it for it in (f"{vertical.more:,} more records" if vertical.more else "", item.more) if it)
     return Shown(_printed(page.text, file.blank, way.options), page.message, page.status, more + (hint if vertical.more else ""))

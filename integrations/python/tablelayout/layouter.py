@@ -136,43 +136,44 @@ class Layouter:
     def lay(self, rows: Optional[Rows] = None, width: int = 72, *, html: Optional[File] = None, csv: Optional[File] = None,
             head: bool = False, least: Sequence[int] = (), style: Optional[str] = None, breaking: Optional[str] = None,
             budget: Optional[int] = None, solver: Optional[str] = None, workers: Optional[int] = None,
-            more: Sequence[str] = ()) -> LowPage:
+            align: Optional[str] = None, more: Sequence[str] = ()) -> LowPage:
         """The lowest page of at most ``width`` columns, 1 to 500.
 
         The table is one of ``rows`` (lists of texts, or a frame), ``html`` and ``csv`` (files as text or bytes). White space
         separates words, and the words of a cell are one paragraph. ``head`` says that the first row is a head, and
         ``least`` how many columns of text the first columns have at least.
 
-        ``style``, ``breaking``, ``budget`` (in cuts), ``solver`` and ``workers`` are the command's options ``--style``,
-        ``--break``, ``--budget``, ``--solver`` and ``--workers``; None leaves them to the program. With ``breaking="fit"`` as
-        few words as can be break, and the page's ``breaking`` says which. ``more`` has the words of further options.
+        ``style``, ``breaking``, ``budget`` (in cuts), ``solver``, ``workers`` and ``align`` are the command's options
+        ``--style``, ``--break``, ``--budget``, ``--solver``, ``--workers`` and ``--align``; None leaves them to the program.
+        With ``breaking="fit"`` as few words as can be break, and the page's ``breaking`` says which. ``more`` has the words
+        of further options.
 
         Raises TooNarrow, BadInput, BadCell, Overlap, LimitPassed, OutOfMemory, BadRequest or ProgramFault. That the budget
         ended the search is no error: the page fits, and ``is_lowest`` is False.
         """
-        options = Options(style, breaking, budget, solver, workers, tuple(more))
+        options = Options(style, breaking, budget, solver, workers, align, tuple(more))
         return self._page("lay", width, source_of(rows, html, csv, head, least), options, LowPage)
 
     def narrow(self, rows: Optional[Rows] = None, height: int = 24, *, html: Optional[File] = None,
                csv: Optional[File] = None, head: bool = False, least: Sequence[int] = (), style: Optional[str] = None,
                breaking: Optional[str] = None, budget: Optional[int] = None, solver: Optional[str] = None,
-               workers: Optional[int] = None, more: Sequence[str] = ()) -> NarrowPage:
+               workers: Optional[int] = None, align: Optional[str] = None, more: Sequence[str] = ()) -> NarrowPage:
         """The narrowest page of at most ``height`` lines. Arguments and errors are those of ``lay``.
 
         Raises TooTall too, and NoPageFound if the budget ended the search before it found a page.
         """
-        options = Options(style, breaking, budget, solver, workers, tuple(more))
+        options = Options(style, breaking, budget, solver, workers, align, tuple(more))
         return self._page("narrow", height, source_of(rows, html, csv, head, least), options, NarrowPage)
 
     def tidy(self, rows: Optional[Rows] = None, width: int = 72, *, html: Optional[File] = None, csv: Optional[File] = None,
              head: bool = False, least: Sequence[int] = (), style: Optional[str] = None, breaking: Optional[str] = None,
              budget: Optional[int] = None, solver: Optional[str] = None, workers: Optional[int] = None,
-             more: Sequence[str] = ()) -> TidyPage:
+             align: Optional[str] = None, more: Sequence[str] = ()) -> TidyPage:
         """The lowest page, on the narrowest page that is as low, whatever the search.
 
         Arguments and errors are those of ``lay``.
         """
-        options = Options(style, breaking, budget, solver, workers, tuple(more))
+        options = Options(style, breaking, budget, solver, workers, align, tuple(more))
         return self._page("tidy", width, source_of(rows, html, csv, head, least), options, TidyPage)
 
     def check(self, rows: Optional[Rows] = None, width: int = 72, certificate: File = "", *, html: Optional[File] = None,
@@ -184,7 +185,7 @@ class Layouter:
         Raises Rejected if it is not valid, and otherwise what ``lay`` raises, but never TooNarrow: a valid certificate that
         no layout fits has the claim ``narrow``.
         """
-        options = Options(style, breaking, budget, None, workers, tuple(more))
+        options = Options(style, breaking, budget, None, workers, more=tuple(more))
         source = source_of(rows, html, csv, head, least)
         cert = certificate.encode("utf-8") if isinstance(certificate, str) else certificate
         answer = self.ask(["check", str(width), *options.words(), *source.words], source.data, cert)

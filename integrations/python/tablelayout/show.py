@@ -5,7 +5,8 @@ import argparse
 from typing import TYPE_CHECKING, List, NamedTuple, Optional, Sequence
 
 from . import terminal
-from .arguments import STATUS_USAGE, Parser, breaking, number_up_to, whole_number, width_of_page, widths_of_columns, with_defaults
+from .arguments import (STATUS_USAGE, Parser, alignment, breaking, number_up_to, whole_number, width_of_page, widths_of_columns,
+                        with_defaults)
 from .decoding import decode
 from .errors import BadInput, BadRequest, Error, LimitPassed, Overlap, TooNarrow
 from .explain import explained
@@ -24,7 +25,7 @@ if TYPE_CHECKING:
 
 STATUS_FAILED, STATUS_BAD_INPUT, STATUS_LIMIT, STATUS_READ_FAULT, STATUS_WRITE_FAULT, STATUS_MEMORY = 1, 5, 6, 7, 8, 9
 # What the program takes, so that what it does not is told by its name.
-_STYLES, _SOLVERS = ("plain", "compact", "frame", "grid", "box"), ("plain", "best", "learn", "rounds")
+_STYLES, _SOLVERS = ("plain", "compact", "rule", "apart", "frame", "grid", "box"), ("plain", "best", "learn", "rounds")
 _MOST_BUDGET, _MOST_WORKERS = 100_000, 16
 
 
@@ -54,13 +55,15 @@ def parser() -> Parser:
     it.add_argument("--columns", metavar="LIST", help="these columns alone, as a,c-f, by name or number")
     it.add_argument("--records", action=_Records, help="each row as two columns, of names and values")
     it.add_argument("--strict", action="store_true", help="only what the program itself reads, with the place of what it does not")
-    it.add_argument("--style", default="compact", choices=_STYLES, metavar="STYLE",
-                    help="how the page is drawn: plain, compact (without it), frame, grid, box")
+    it.add_argument("--style", default="rule", choices=_STYLES, metavar="STYLE",
+                    help="how the page is drawn: plain, compact, rule (without it), apart, frame, grid, box")
     it.add_argument("--break", dest="breaking", type=breaking, metavar="words|any|fit|N",
                     help="how words break: not, all, as few as can be (without it), or those wider than N columns")
     it.add_argument("--budget", type=number_up_to(_MOST_BUDGET), metavar="N", help="how many cuts one search may make")
     it.add_argument("--solver", choices=_SOLVERS, metavar="SEARCH", help="which search finds the page")
     it.add_argument("--workers", type=number_up_to(_MOST_WORKERS, 1), metavar="K", help="how many workers search at one time")
+    it.add_argument("--align", default="auto", type=alignment, metavar="LIST|auto",
+                    help="the side of each column, as l,r,c, or auto (without it): columns of numbers stand at the right")
     it.add_argument("--trim", action="store_true", help="no spaces at the ends of lines")
     it.add_argument("--html", action="store_true", help="the page as HTML with its widths")
     it.add_argument("--progress", action="store_true", help="how far a search has come, not on a terminal alone")
@@ -128,7 +131,7 @@ class _Show:
         self._room = terminal.columns()
         self._says_numbers = terminal.is_terminal() if given.is_verbose is None else given.is_verbose
         more = tuple(name for name, is_given in ((TRIM, given.trim), (HTML_PAGE, given.html)) if is_given)
-        options = Options(given.style, given.breaking or BREAKING, given.budget, given.solver, given.workers, more)
+        options = Options(given.style, given.breaking or BREAKING, given.budget, given.solver, given.workers, given.align, more)
         records = False if given.html or given.strict else given.records
         self._way = Way(given.width or self._room, options, records, terminal.has_bold() and not given.html)
 

@@ -27,12 +27,13 @@ class Options(NamedTuple):
     budget: Optional[int] = None
     solver: Optional[str] = None
     workers: Optional[int] = None
+    align: Optional[str] = None
     more: Tuple[str, ...] = ()
 
     def words(self) -> List[str]:
         """The options as words of a request."""
         named = (("style", self.style), ("break", self.breaking), ("budget", self.budget), ("solver", self.solver),
-                 ("workers", self.workers))
+                 ("workers", self.workers), ("align", self.align))
         words = [word for name, value in named if value is not None for word in (f"--{name}", str(value))]
         return [*words, *self.more]
 
