@@ -203,9 +203,9 @@ linked demo 1 | expect_text "program demo 1" "by a link"
 readonly ANSWERED="the program answered with status 1: program"
 echo '<table>' >"$room/in.html"
 COLUMNS=7 "$checkout/tablelayout" show "$room/in.html" 2>&1 |
-    expect_text "$ANSWERED lay 7 --style compact --break fit" "by show with COLUMNS"
+    expect_text "$ANSWERED lay 7 --style rule --break fit --align auto" "by show with COLUMNS"
 TABLELAYOUT=$room/none "$checkout/tablelayout" show "$room/in.html" --width 8 --break any 2>&1 |
-    expect_text "$ANSWERED lay 8 --style compact --break any" "by show where the environment names a command"
+    expect_text "$ANSWERED lay 8 --style rule --break any --align auto" "by show where the environment names a command"
 asked | expect_text "" "by rt for a program that is built"
 
 # Where nothing changed, one process looks for what is newer.

@@ -192,7 +192,7 @@ class Show(unittest.TestCase):
     @common.needs_parser
     def test_page_of_several_tables(self):
         ran = show(data=PAGE)
-        self.assertEqual((ran.lines, ran.said, ran.status), (["Ports", "name  depth", "Leith 9", "", "Table 2", "one [two]"], "", 0))
+        self.assertEqual((ran.lines, ran.said, ran.status), (["Ports", "name  depth", "----- -----", "Leith     9", "", "Table 2", "one [two]"], "", 0))
         self.assertEqual(show("--table", 2, data=PAGE).lines, ["one [two]"])
         self.assertEqual(show("--list", data=PAGE).lines, ["  1  2 x 2  Ports: name depth Leith 9", "  2  1 x 2  one [two]"])
         ran = show("--table", 3, data=PAGE)
@@ -214,9 +214,9 @@ class Show(unittest.TestCase):
                            ("d.csv", SHIPS.decode().encode("utf-16"))):
             with self.subTest(name=name):
                 self.assertEqual(show(self.file(name, data)).lines, wanted)
-        self.assertEqual(show("--csv", "--head", "-", data=b"a,b\nc,d\n").lines, ["a b", "c d"])
+        self.assertEqual(show("--csv", "--head", "-", data=b"a,b\nc,d\n").lines, ["a b", "- -", "c d"])
         self.assertEqual(show("--csv", "--delimiter", "semicolon", "--columns", "note,1", "--rows", "1", "--head", data=SHIPS).lines,
-                         ["note name", "deep Leith"])
+                         ["note name", "---- -----", "deep Leith"])
         ran = show("--csv", "--rows", "0", data=SHIPS)
         self.assertEqual((ran.status, ran.said.splitlines()[0]), (2, "usage"))
 
@@ -249,8 +249,8 @@ class Show(unittest.TestCase):
         self.assertEqual(ran.lines[-1], "1,500 more records and 1 more row; --rows and --columns choose others")
 
     def test_json(self):
-        self.assertEqual(show(self.file("a.json", b'[{"a": 1}, {"b": "x y"}]')).lines, ["a b", "1", "  x y"])
-        self.assertEqual(show(self.file("a.jsonl", b'{"a": 1}\n{"a": 2}\n')).lines, ["a", "1", "2"])
+        self.assertEqual(show(self.file("a.json", b'[{"a": 1}, {"b": "x y"}]')).lines, ["a b", "- ---", "1", "  x y"])
+        self.assertEqual(show(self.file("a.jsonl", b'{"a": 1}\n{"a": 2}\n')).lines, ["a", "-", "1", "2"])
         ran = show("--json", data=b"{")
         self.assertEqual((ran.status, ran.said[:28]), (5, "bad input: it is no JSON: Ex"))
 

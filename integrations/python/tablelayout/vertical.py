@@ -48,11 +48,14 @@ class Vertical(NamedTuple):
 
 
 def vertical_of(columns: Columns) -> Vertical:
-    """One table with the records one under the other, each below a row with its number, as many as the program takes."""
+    """One table with the records one under the other, each below a row with its number, as many as the program takes.
+
+    No row is of header cells alone, so the table has no head, and no line under one.
+    """
     count = max(1, MOST_ROWS // (len(columns.names) + 1))
     parts = ["<table>\n"]
     for number, row in enumerate(columns.rows[:count], 1):
-        parts.append(f"<tr><th colspan=2><p>[{BLANK}{number}{BLANK}]</p></th></tr>\n")
+        parts.append(f"<tr><td colspan=2><p>[{BLANK}{number}{BLANK}]</p></td></tr>\n")
         parts.extend(f"<tr><th>{name}</th><td>{value}</td></tr>\n" for name, value in zip(columns.names, row))
     parts.append("</table>\n")
     return Vertical("".join(parts), max(0, len(columns.rows) - count))
