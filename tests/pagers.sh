@@ -12,7 +12,9 @@ unset COLUMNS TABLELAYOUT_OPTIONS
 export TERM=dumb HOME=$room/work GIT_CONFIG_NOSYSTEM=1
 cd "$room/work" || exit 1
 printf 'item,left\nlamp oil,3\nrope,12\n' >stock.csv
-wanted=$'item     left\nlamp oil 3   \nrope     12  '
+# With a head, and without one.
+wanted=$'item     left\n-------- ----\nlamp oil    3\nrope       12'
+headless=$'item     left\nlamp oil 3   \nrope     12  '
 
 # Whether a program is there to be tried.
 has() {
@@ -29,14 +31,14 @@ if has duckdb; then
     duckdb -csv -c "select * from 'stock.csv'" | tablelayout show --csv --head | expect_text "$wanted" "of duckdb"
 fi
 if has csvcut; then
-    csvcut -c 2,1 stock.csv | tablelayout show --csv --head | expect_text $'left item    \n3    lamp oil\n12   rope    ' "of csvkit"
+    csvcut -c 2,1 stock.csv | tablelayout show --csv --head | expect_text $'left item    \n---- --------\n   3 lamp oil\n  12 rope    ' "of csvkit"
 fi
 if has jq; then
     jq -n '{items: [{item: "lamp oil", left: 3}, {item: "rope", left: 12}]}' >stock.json
     jq '.items' stock.json | tablelayout show --json | expect_text "$wanted" "of jq"
 fi
 if has less; then
-    LESSOPEN='|tablelayout lessopen %s' less stock.csv | expect_text "$wanted" "by less"
+    LESSOPEN='|tablelayout lessopen %s' less stock.csv | expect_text "$headless" "by less"
     cp stock.csv stock.txt
     LESSOPEN='|tablelayout lessopen %s' less stock.txt | expect stock.csv "by less of another file"
 fi
@@ -84,7 +86,7 @@ if has psql && start_server; then
     echo "$query \\g (format=csv) | tablelayout show --csv --head -" | psql -Xq | expect_text "$wanted" "of psql"
     printf '%s\n' '\pset format csv' "\\setenv PSQL_PAGER 'tablelayout show --csv --head -'" '\pset pager always' "$query;" >always.sql
     if command -v script >/dev/null; then
-        TERM=xterm NO_COLOR=1 script -qec "stty rows 24 cols 40; psql -Xqf always.sql" /dev/null </dev/null | tr -d '\r' | head -n 3 |
+        TERM=xterm NO_COLOR=1 script -qec "stty rows 24 cols 40; psql -Xqf always.sql" /dev/null </dev/null | tr -d '\r' | head -n 4 |
             expect_text "$wanted" "of psql with its pager"
     fi
     "${as_owner[@]}" "$server" -D "$room/server/data" -m immediate stop >/dev/null

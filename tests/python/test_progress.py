@@ -83,7 +83,7 @@ class Progress(unittest.TestCase):
         # On one line: none ends before the page.
         self.assertEqual(came[:came.index("a\n")].count("\n"), 0)
         self.assertEqual(screen(came, 80), ["a", "lowest height 1 width 1", ""])
-        self.assertEqual((shown.ran.returncode, self.asked()), (0, [f"batch --progress: lay 80 --style compact --break fit {len(TABLE)}"]))
+        self.assertEqual((shown.ran.returncode, self.asked()), (0, [f"batch --progress: lay 80 --style rule --break fit --align auto {len(TABLE)}"]))
 
     def test_narrow_terminal(self):
         shown = self.show(self.program(said(FIRST, LATER), PAUSE, ANSWER), columns=20)
@@ -138,7 +138,7 @@ class Progress(unittest.TestCase):
 
     def test_asked_for_only_where_it_is_drawn(self):
         program = self.program(said(FIRST), ANSWER)
-        asked = f"lay 80 --style compact --break fit {len(TABLE)}"
+        asked = f"lay 80 --style rule --break fit --align auto {len(TABLE)}"
         self.assertEqual(screen(self.show(program, "--quiet").end(), 80)[-2:], ["a", ""])
         environment = {**common.environment_of_test(), "TABLELAYOUT": program, "ROOM": str(self.room), "COLUMNS": "80"}
         for more, words in ([], "batch"), (["--progress"], "batch --progress"):

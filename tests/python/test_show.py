@@ -402,7 +402,7 @@ class Viewers(unittest.TestCase):
     @common.needs_pandoc
     def test_lessopen_of_a_document(self):
         lines = [it for it in self.run_on("lessopen", "a.html", PAGE.replace(b"<img alt=two>", b"two")).lines if it]
-        self.assertEqual(lines, ["before", "Ports", "name  depth", "Leith 9", "-   between", "one two"])
+        self.assertEqual(lines, ["before", "Ports", "name  depth", "----- -----", "Leith 9", "-   between", "one two"])
 
     def test_textconv(self):
         self.assertEqual(self.run_on("textconv", "a.csv", SHIPS).text, "name  depth note\nLeith 9     deep\nAyr   4\n")
@@ -455,8 +455,9 @@ class Viewers(unittest.TestCase):
 class Page(unittest.TestCase):
     @common.needs_pandoc
     def test_document(self):
+        # The page of pandoc itself stays where it is no higher.
         for name, text, wanted in (
-            ("a.md", "before\n\n| a | b |\n|---|---|\n| x | y |\n", ["before", "", "a b", "x y"]),
+            ("a.md", "before\n\n| a | b |\n|---|---|\n| x | y |\n", ["before", "", "  a   b", "  --- ---", "  x   y"]),
             ("b.html", "<meta charset=iso-8859-1><p>\u00e9</p><table><tr><td>a</td><td>b</td></tr></table>", ["é", "", "a b"]),
         ):
             with self.subTest(name=name), tempfile.TemporaryDirectory() as room:
@@ -470,7 +471,7 @@ class Page(unittest.TestCase):
     @common.needs_parser
     def test_tags_that_are_left_out(self):
         ran = Run("page", "--width", 40, data=b"<meta charset=iso-8859-1><p>\xe9<table><tr><th>a<th>b<tr><td>x<td>y</table>")
-        self.assertEqual((ran.lines, ran.status, ran.said), (["é", "", "a b", "x y"], 0, ""))
+        self.assertEqual((ran.lines, ran.status, ran.said), (["é", "", "a b", "- -", "x y"], 0, ""))
 
     def test_faults(self):
         self.assertEqual(Run("page", "/no/such/file").status, 7)
