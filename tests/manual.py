@@ -127,7 +127,8 @@ def read_manual(text):
 
 
 def read_help(text):
-    options = re.findall(r"^  (--\S+(?: \S+)*)  ", text, re.M)
+    # What an option says stands behind it, or below if there is no room.
+    options = re.findall(r"^  (--\S+(?: \S+)*)(?:  |$)", text, re.M)
     return {
         "command": set(re.findall(r"^  tablelayout (\w+)(?: [A-Z\[].*)?$", text, re.M)),
         "option": dict(option_of(it.replace("|", " ").split()) for it in options),
