@@ -3,6 +3,7 @@
 --   a,b        |a  |b|     the first record: a floor of 5 is given for its first column
 --   ccc,d      |ccc|d|     the second record
 use Rattle.std.proofs.Common.{◌≡◌, ℕ, true, false, List, [], ◌∷◌, codes, IsUtf8, inl, refl, sym, ap, subst, arith}
+use Rattle.std.proofs.Common.{None}
 use Rattle.std.specs.Char.{encode_utf8}
 use Rattle.std.specs.List.{AllZip}
 use Rattle.std.specs.Str.{chars, is_utf8}
@@ -128,6 +129,7 @@ cell_a = record {
   in_head = false;
   place = slot_in 0 0;
   least = 5;
+  align = None;
   blocks = roll-Content (open_content.Para (Word (codes "a") ∷ [])) ∷ [];
 }
 
@@ -137,6 +139,7 @@ cell_b = record {
   in_head = false;
   place = slot_in 0 1;
   least = 0;
+  align = None;
   blocks = roll-Content (open_content.Para (Word (codes "b") ∷ [])) ∷ [];
 }
 
@@ -150,6 +153,7 @@ is_cell_a = record {
   in_head = refl;
   place = refl;
   least = refl;
+  align = refl;
   blocks = λ i. out-roll-Content (open_content.Para (Word (codes "a") ∷ [])) i ∷ [];
 }
 
@@ -160,6 +164,7 @@ is_cell_b = record {
   in_head = refl;
   place = refl;
   least = refl;
+  align = refl;
   blocks = λ i. out-roll-Content (open_content.Para (Word (codes "b") ∷ [])) i ∷ [];
 }
 

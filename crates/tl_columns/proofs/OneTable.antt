@@ -31,8 +31,9 @@ module _ (head : Bool) (floors : List ℕ) (breaking : Breaking) where
       let in_head = one.in_head ∙ sym two.in_head in
       let place = one.place ∙ sym two.place in
       let least = one.least ∙ sym two.least in
+      let align = one.align ∙ sym two.align in
       let blocks = same_blocks cell.blocks other.blocks (one.blocks ∙ sym two.blocks) in
-      λ i. record { kind = kind i; in_head = in_head i; place = place i; least = least i; blocks = blocks i }
+      λ i. record { kind = kind i; in_head = in_head i; place = place i; least = least i; align = align i; blocks = blocks i }
 
   same_cell : (at : PlacedField) (cell other : TableCell) → IsFieldCell head floors breaking at (out-TableCell cell) →
       IsFieldCell head floors breaking at (out-TableCell other) → cell ≡ other

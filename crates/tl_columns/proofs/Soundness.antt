@@ -52,6 +52,7 @@ cell_itself cell text = record {
   in_head = refl;
   place = refl;
   least = refl;
+  align = refl;
   blocks = zip_itself (λ block. IsText (out-Content block))
       (λ block content. AreSameContent (AreSameWithin 0) (out-Content block) (out-Content content))
       (λ block one. block_itself (out-Content block) one) (out-TableCell cell).blocks text;

@@ -1,6 +1,7 @@
 -- The table of a list of records: a row for each record, a column for each field of the first, and a cell for each field,
 -- whose words are its one paragraph.
 use Rattle.std.specs.Prelude.{◌≡◌, ℕ, ◌+◌, ◌==◌, ◌&&◌, Bool, false, List, [], ◌∷◌, length, map, if◌then◌else◌, slice_index}
+use Rattle.std.specs.Prelude.{None}
 use Rattle.std.specs.List.{AllZip, enumerate_from, flat_map}
 use Rattle.std.specs.Str.{chars}
 use Rattle.tl_base.specs.declared.breaking.Breaking.{Breaking}
@@ -54,6 +55,7 @@ pub record IsFieldCell (head : Bool) (floors : List ℕ) (breaking : Breaking) (
   pub in_head : cell.in_head ≡ false
   pub place : cell.place ≡ slot_in at.row at.column
   pub least : cell.least ≡ floor_in floors at.row at.column
+  pub align : cell.align ≡ None
   pub blocks : map out-Content cell.blocks ≡ blocks_of_words breaking (words_of (chars at.field))
 
 -- the records are within the limits, nothing is wrong with them, and this is their table

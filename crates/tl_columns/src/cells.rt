@@ -121,6 +121,7 @@ fn cell(
         in_head: false,
         place: slot_in(row, column),
         least: floor_in(least, row, column),
+        align: None,
         blocks,
     })
 }

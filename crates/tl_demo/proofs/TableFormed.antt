@@ -2,6 +2,7 @@
 use Rattle.std.proofs.Common.{◌≡◌, ◌∙◌, ℕ, zero, suc, ◌+◌, ◌<◌, ◌≤◌, max, ◌⊎◌, Bool, false, List, [], ◌∷◌, ◌++◌, map, length, get_or}
 use Rattle.std.proofs.Common.{insert}
 use Rattle.std.proofs.Common.{refl, sym, ap, subst, inl, inr, arith, append-nil}
+use Rattle.std.proofs.Common.{None}
 use Rattle.std.specs.List.{All, AllByRecursion, flat_map}
 use Rattle.std.specs.List.Sorted.{IsPermutation, IsNonDecreasingBy}
 use Rattle.std.proofs.lemmas.Bool.{cases_lt}
@@ -108,6 +109,7 @@ open_cell c place = record {
   in_head = false;
   place = place;
   least = 0;
+  align = None;
   blocks =
       roll-Content (open_content.Para (paragraph_in c)) ∷ [];
 }
@@ -181,7 +183,7 @@ cell_becomes c place =
     subst (λ (n : OpenCellNode). BecomesCell Forms Words n (out-TableCell (table_cell c place)))
     (sym (out-roll-CellNode (open_cell_node c)))
     (subst (λ (d : OpenCell). BecomesCell Forms Words (open_cell_node c) d) (sym (out-roll-TableCell (open_cell c place)))
-    (record { kind = refl; least = refl; blocks = (block_becomes (paragraph_in c), tt) }))
+    (record { kind = refl; least = refl; align = refl; blocks = (block_becomes (paragraph_in c), tt) }))
 
 cells_become : (cells : List DemoCell) (places : List Place) → length cells ≡ length places →
     BecomeCells Forms Words (map cell_node cells) (placed_cells cells places)

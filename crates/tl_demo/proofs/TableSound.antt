@@ -1,6 +1,6 @@
 -- The tree of a table is sound: one table, with words without control characters.
 use Rattle.std.proofs.Common.{◌≡◌, ◌∙◌, ℕ, zero, suc, ◌+◌, ◌*◌, ◌≤◌, false, List, [], ◌∷◌, map, length, refl, sym, ap, subst}
-use Rattle.std.proofs.Common.{arith, sum_by}
+use Rattle.std.proofs.Common.{arith, sum_by, None}
 use Rattle.std.specs.List.{AllByRecursion, list_any}
 use Rattle.std.specs.Str.{IsAscii}
 use Rattle.std.proofs.lemmas.List.{length-map}
@@ -141,7 +141,7 @@ cells_size [] later all = omega arith
 cells_size (c ∷ cells) later all =
     omega (
       arith,
-      sum_by-cons entry_size (cell false c.colspan 1 0) (paragraph (paragraph_in c) ∷ cells_listed cells later),
+      sum_by-cons entry_size (cell false c.colspan 1 0 None) (paragraph (paragraph_in c) ∷ cells_listed cells later),
       sum_by-cons entry_size (paragraph (paragraph_in c)) (cells_listed cells later),
       few_bytes c.words (all.0).words,
       (all.0).few,

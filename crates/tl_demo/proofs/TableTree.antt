@@ -221,6 +221,7 @@ open_cell_node c = record {
   colspan = c.colspan;
   rowspan = 1;
   least = 0;
+  align = None;
   flow = roll-Block (open_block.Para (paragraph_in c)) ∷ [];
 }
 
@@ -239,9 +240,9 @@ abbrev pub table_node : List (List DemoCell) → TableNode
 table_node rows = roll-TableNode (open_table_node rows)
 
 -- a cell is followed by its paragraph
-cell_outlined : (c : DemoCell) → cell_outline (cell_node c) ≡ cell false c.colspan 1 0 ∷ paragraph (paragraph_in c) ∷ []
+cell_outlined : (c : DemoCell) → cell_outline (cell_node c) ≡ cell false c.colspan 1 0 None ∷ paragraph (paragraph_in c) ∷ []
 cell_outlined c =
-    cell_made (open_cell_node c) ∙ ap (λ (es : Entries). cell false c.colspan 1 0 ∷ (es ++ [])) (paragraph_made (paragraph_in c))
+    cell_made (open_cell_node c) ∙ ap (λ (es : Entries). cell false c.colspan 1 0 None ∷ (es ++ [])) (paragraph_made (paragraph_in c))
 
 -- ---- its outline is that of the marks
 
@@ -275,7 +276,7 @@ cells_entries k [] later sharp all = refl
 cells_entries k (c ∷ cells) later sharp all =
     let text = words_text c.words in
     let ms = cells_marks cells later in
-    let start : Entries → Entries = λ es. cell false c.colspan 1 0 ∷ es in
+    let start : Entries → Entries = λ es. cell false c.colspan 1 0 None ∷ es in
     ap (λ (m : Marks). start (paragraph_of (atoms_of m) ++ entries_after k (map character text ++ grammar.paragraph_ends ∷ ms)))
     (text_leads text ms)
     ∙ ap (λ (l : List Atom). start (paragraph_of l ++ entries_after k (map character text ++ grammar.paragraph_ends ∷ ms)))
@@ -340,7 +341,7 @@ kinds_are tokens items is = each_kind tokens ∙ ap (map class_of) is
 -- a cell and its paragraph, and then the rest
 abbrev pub cells_listed : List DemoCell → Entries → Entries
 cells_listed [] later = later
-cells_listed (c ∷ cells) later = cell false c.colspan 1 0 ∷ paragraph (paragraph_in c) ∷ cells_listed cells later
+cells_listed (c ∷ cells) later = cell false c.colspan 1 0 None ∷ paragraph (paragraph_in c) ∷ cells_listed cells later
 
 abbrev pub rows_listed : List (List DemoCell) → Entries → Entries
 rows_listed [] later = later
@@ -352,7 +353,7 @@ cells_in_list [] later = refl
 cells_in_list (c ∷ cells) later =
     append_assoc (cell_outline (cell_node c)) (flat_map cell_outline (map cell_node cells)) later
     ∙ ap (λ (es : Entries). es ++ (flat_map cell_outline (map cell_node cells) ++ later)) (cell_outlined c)
-    ∙ ap (λ (es : Entries). cell false c.colspan 1 0 ∷ paragraph (paragraph_in c) ∷ es) (cells_in_list cells later)
+    ∙ ap (λ (es : Entries). cell false c.colspan 1 0 None ∷ paragraph (paragraph_in c) ∷ es) (cells_in_list cells later)
 
 rows_in_list : (rows : List (List DemoCell)) (later : Entries) →
     flat_map row_outline (map (map cell_node) rows) ++ later ≡ rows_listed rows later

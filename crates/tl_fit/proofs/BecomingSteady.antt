@@ -84,6 +84,7 @@ module _ (wide less most : ℕ) (wide_below : wide ≤ less) (some : 0 < less) (
       record {
         kind = become.0.kind;
         least = become.0.least;
+        align = become.0.align;
         blocks = steady-blocks (out-CellNode node).flow cell apart.0 become.0.blocks;
       },
       steady-cells nodes cells apart.1 become.1,
@@ -100,6 +101,7 @@ module _ (wide less most : ℕ) (wide_below : wide ≤ less) (some : 0 < less) (
         in_head = become.0.in_head;
         place = become.0.place;
         least = become.0.least;
+        align = become.0.align;
         blocks = steady-blocks flow cell apart.0 become.0.blocks;
       },
       become.1,

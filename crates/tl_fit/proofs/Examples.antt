@@ -2,6 +2,7 @@
 --
 --   |aa b||cccc| d||     (a table in the right cell, with two cells of its own)
 use Rattle.std.proofs.Common.{◌≡◌, ◌∙◌, inl, inr, ℕ, ◌<◌, List, [], ◌∷◌, ◌++◌, length, codes, refl, ap, arith, append-nil, false}
+use Rattle.std.proofs.Common.{None}
 use Rattle.std.specs.List.{flat_map}
 use Rattle.std.specs.declared.alloc.Global.{Global}
 use Rattle.std.specs.declared.boxed.Box.{Box}
@@ -41,7 +42,7 @@ d = Word (codes "d")
 
 abbrev cell : ℕ → OpenContent → OpenCell
 cell column block =
-    record { kind = kinds.Plain; in_head = false; place = slot_in 0 column; least = 0; blocks = roll-Content block ∷ [] }
+    record { kind = kinds.Plain; in_head = false; place = slot_in 0 column; least = 0; align = None; blocks = roll-Content block ∷ [] }
 
 abbrev row : ℕ → OpenContent → OpenContent → OpenTable
 row number left right = record {

@@ -69,6 +69,7 @@ module _ (wide less most : ℕ) (wide_below : wide ≤ less) (some : 0 < less) (
       in_head = is.in_head;
       place = is.place;
       least = is.least;
+      align = is.align;
       blocks = is.blocks ∙ words_steady (words_of (chars at.field)) (subst (AreApart wide most) (field_units at cell is) apart);
     }
 

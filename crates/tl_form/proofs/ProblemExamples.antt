@@ -86,6 +86,7 @@ module _ (paragraph : List Atom) (box : Box Table Global) (is : (out-Table box.v
     in_head = false;
     place = record { left = 0; right = 1; top = 0; bottom = 1 };
     least = floor;
+    align = None;
     blocks =
         blocks;
   }
@@ -145,6 +146,7 @@ in_row kind row = record {
   in_head = false;
   place = record { left = 0; right = 1; top = row; bottom = row + 1 };
   least = 0;
+  align = None;
   blocks = [];
 }
 

@@ -2,6 +2,7 @@
 use Rattle.std.proofs.Common.{◌≡◌, ℕ, ◌-◌, ◌<◌, ◌≤◌, Bool, true, false, List, [], ◌∷◌, ◌++◌, map, refl, sym, ap, ◌∙◌, subst}
 use Rattle.std.proofs.Common.{append_assoc, append-nil}
 use Rattle.std.proofs.Common.{codes, arith}
+use Rattle.std.proofs.Common.{None}
 use Rattle.std.specs.List.{AllZip, AllByRecursion, flat_map}
 use Rattle.std.proofs.lemmas.List.{map-append}
 use Rattle.std.proofs.lemmas.List.Concat.{flat_map-append}
@@ -178,16 +179,16 @@ cell_goes head colspan rowspan least items ms goes k1 rest m1 more cells =
     (by_tag no_space) cells))
 
 cell_stands : (k next : ℕ) (head : Bool) (colspan rowspan least : ℕ) (ms : Marks) (es : Entries) → StandFor k ms es next →
-    StandFor k (cell_marks head colspan rowspan least ms) (cell head colspan rowspan least ∷ es) next
+    StandFor k (cell_marks head colspan rowspan least ms) (cell head colspan rowspan least None ∷ es) next
 cell_stands k next head colspan rowspan least ms es stand = record {
   sharp = λ later sharp. refl;
   same = λ later sharp.
-      ap (λ (m : Marks). cell head colspan rowspan least ∷ (paragraph_of (atoms_of (leading m)) ++ entries_after k m))
+      ap (λ (m : Marks). cell head colspan rowspan least None ∷ (paragraph_of (atoms_of (leading m)) ++ entries_after k m))
       (append_assoc ms (grammar.paragraph_ends ∷ []) later)
-      ∙ ap (λ (m : Marks). cell head colspan rowspan least ∷
+      ∙ ap (λ (m : Marks). cell head colspan rowspan least None ∷
       (paragraph_of (atoms_of m) ++ entries_after k (ms ++ grammar.paragraph_ends ∷ later)))
       (stand.sharp (grammar.paragraph_ends ∷ later) refl)
-      ∙ ap (λ (rest : Entries). cell head colspan rowspan least ∷ rest) (stand.same (grammar.paragraph_ends ∷ later) refl
+      ∙ ap (λ (rest : Entries). cell head colspan rowspan least None ∷ rest) (stand.same (grammar.paragraph_ends ∷ later) refl
       ∙ ap (λ (rest : Entries). es ++ rest) (ends_sharp next later sharp));
 }
 
@@ -296,11 +297,12 @@ module _ (breaking : Breaking) (forms : TableNode → Table → Type 0) (alike :
         colspan = colspan;
         rowspan = rowspan;
         least = o.least;
+        align = None;
         flow =
             flow.flow;
       } in
       let made : CellNode = roll-CellNode node' in
-      let twin' : OpenCell = record { kind = o.kind; in_head = false; place = place; least = o.least; blocks = flow.back } in
+      let twin' : OpenCell = record { kind = o.kind; in_head = false; place = place; least = o.least; align = None; blocks = flow.back } in
       let twin : TableCell = roll-TableCell twin' in
       let open_node : out-CellNode made ≡ node' = out-roll-CellNode node' in
       let open_twin : out-TableCell twin ≡ twin' = out-roll-TableCell twin' in
@@ -347,7 +349,7 @@ module _ (breaking : Breaking) (forms : TableNode → Table → Type 0) (alike :
         become = (
           subst (λ (d : OpenCellNode). BecomesCell forms breaking d (out-TableCell twin)) (sym open_node)
               (subst (λ (d : OpenCell). BecomesCell forms breaking node' d) (sym open_twin)
-              (record { kind = is.kind; least = refl; blocks = flow.become })),
+              (record { kind = is.kind; least = refl; align = refl; blocks = flow.become })),
           rest.become,
         );
         same = (

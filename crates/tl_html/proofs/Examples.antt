@@ -1,6 +1,7 @@
 -- The page of a table with a cell over both columns and two below it, in a layout of 1 and 4 columns; and that of a
 -- table with a caption and a header cell with a floor. And when tables are alike, and a layout has columns.
 use Rattle.std.proofs.Common.{◌≡◌, ◌∙◌, ℕ, zero, suc, List, [], ◌∷◌, ◌++◌, length, codes, refl, sym, ap, subst, arith, false}
+use Rattle.std.proofs.Common.{None}
 use Rattle.std.specs.List.{AllZip}
 use Rattle.std.proofs.lemmas.Fmt.{decimal_digit}
 use Rattle.tl_text.specs.declared.paragraph.Atom.TheVariants.{Word, Glue, Break}
@@ -91,6 +92,7 @@ empty_cell cols = record {
   place = record { left = 0; right = cols; top = 0; bottom = 1 };
   least =
       0;
+  align = None;
   blocks = [];
 }
 

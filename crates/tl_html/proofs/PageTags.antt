@@ -13,7 +13,8 @@ use Rattle.tl_base.specs.declared.limits.TheConstants.{MAX_COLSPAN, MAX_ROWSPAN,
 use Rattle.tl_token.specs.Characters.{◌∈◌, is_space, is_name_character, is_gap, begins, run, past}
 use Rattle.tl_token.specs.Numbers.{number, number_from, unsigned, signed_number, number_of, columns_spanned, rows_spanned}
 use Rattle.tl_token.specs.Numbers.{floor_of}
-use Rattle.tl_token.specs.Elements.{Attribute, value_of, attribute_number, element_of, span_numbers, cell_spans, no_spans}
+use Rattle.tl_token.specs.Elements.{Attribute, value_of, attribute_number, attribute_side, element_of, span_numbers, cell_spans}
+use Rattle.tl_token.specs.Elements.{no_spans}
 use Rattle.tl_token.specs.Grammar.{Each, quoted, Attributes, IsTagName, opening, markup}
 use Rattle.tl_token.specs.Grammar as grammar
 use Rattle.tl_token.specs.declared.token.Element.{Element}
@@ -236,9 +237,9 @@ numbered true name number later others rest small some named more =
     (in_quotes name (decimal number) later others rest some named
     (digits_no_quote (decimal number) (decimal_digits number small).digits) more)
 
--- the numbers of a cell, and its attributes as they are written
+-- the numbers of a cell, which asks for no side, and its attributes as they are written
 abbrev pub numbers : ℕ → ℕ → ℕ → Spans
-numbers colspan rowspan least = record { colspan = colspan; rowspan = rowspan; span = 1; least = least }
+numbers colspan rowspan least = record { colspan = colspan; rowspan = rowspan; span = 1; least = least; align = None }
 
 abbrev pub attributes_text : ℕ → ℕ → ℕ → List ℕ
 attributes_text colspan rowspan least =
@@ -306,12 +307,23 @@ module _ (colspan rowspan least : ℕ) (columns : 0 < colspan) (few_columns : co
           omega arith in n)
       by_test false none = let le = ltb-false 0 least none in omega arith
 
+  side_is : (a b c : Bool) → attribute_side (listed a b c) ≡ None
+  side_is true true true = refl
+  side_is true true false = refl
+  side_is true false true = refl
+  side_is true false false = refl
+  side_is false true true = refl
+  side_is false true false = refl
+  side_is false false true = refl
+  side_is false false false = refl
+
   spans_are : cell_spans (listed (ltb 1 colspan) (ltb 1 rowspan) (ltb 0 least)) ≡ numbers colspan rowspan least
   spans_are = λ i. record {
     colspan = colspan_is (ltb 1 colspan) (ltb 1 rowspan) (ltb 0 least) refl i;
     rowspan = rowspan_is (ltb 1 colspan) (ltb 1 rowspan) (ltb 0 least) refl i;
     span = 1;
     least = least_is (ltb 1 colspan) (ltb 1 rowspan) (ltb 0 least) refl i;
+    align = side_is (ltb 1 colspan) (ltb 1 rowspan) (ltb 0 least) i;
   }
 
   all_attributes : (rest : List ℕ) → Attributes ((attributes_text colspan rowspan least) ++ (0x3E ∷ rest))

@@ -359,7 +359,7 @@ module _ (breaking : Breaking) (forms : TableNode → Table → Type 0) (alike :
       let items = caption_start_item ∷ (f.items ++ caption_end_item ∷ []) in
       let marks : Marks = grammar.caption_begins ∷ (f.ms ++ grammar.paragraph_ends ∷ []) in
       let is : is_caption one ≡ true = ap html.is_caption_kind is_one.kind in
-      let twin' : OpenCell = record { kind = o.kind; in_head = false; place = o.place; least = o.least; blocks = f.back } in
+      let twin' : OpenCell = record { kind = o.kind; in_head = false; place = o.place; least = o.least; align = None; blocks = f.back } in
       let twin : TableCell = roll-TableCell twin' in
       let open_twin : out-TableCell twin ≡ twin' = out-roll-TableCell twin' in
       let top : o.place.top ≡ 0 = ap (λ (p : Place). p.top) is_one.place in
@@ -414,7 +414,7 @@ module _ (breaking : Breaking) (forms : TableNode → Table → Type 0) (alike :
         back = twin ∷ [];
         become = (
           subst (λ (d : OpenCell). BecomesCaption forms breaking cols f.flow d) (sym open_twin)
-              (record { kind = is_one.kind; in_head = refl; place = is_one.place; least = is_one.least; blocks = f.become }),
+              (record { kind = is_one.kind; in_head = refl; place = is_one.place; least = is_one.least; align = refl; blocks = f.become }),
           refl,
         );
         same = (

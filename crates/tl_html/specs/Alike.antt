@@ -1,5 +1,6 @@
--- When two tables are the same but for the numbers of tables, which say where each begins in its file, and for which of their
--- cells are of a `thead`: a page is written with all of its rows in one group.
+-- When two tables are the same but for the numbers of tables, which say where each begins in its file, for which of their
+-- cells are of a `thead`, and for the sides that cells ask for: a page is written with all of its rows in one group and
+-- without sides.
 use Rattle.std.specs.Prelude.{◌≡◌, ℕ, zero, suc}
 use Rattle.std.specs.List.{AllZip}
 use Rattle.tl_table.specs.declared.cell.Table.{Table, out-Table}
@@ -8,7 +9,7 @@ use Rattle.tl_table.specs.declared.cell.Content.{out-Content}
 use Rattle.tl_table.specs.Same.{AreSameContent}
 use Rattle.tl_table.specs.Tables.{OpenCell, OpenTable}
 
--- two cells are the same but for whether their row is of a `thead`, where `alike` says so of nested tables
+-- two cells are the same but for whether their row is of a `thead` and for the side that they ask for, where `alike` says so of nested tables
 pub record AreAlikeCell (alike : Table → Table → Type 0) (one other : OpenCell) : Type 0 where
   pub kind : one.kind ≡ other.kind
   pub place : one.place ≡ other.place
@@ -21,11 +22,11 @@ pub record AreAlikeBy (alike : Table → Table → Type 0) (one other : OpenTabl
   pub rows : one.rows ≡ other.rows
   pub cells : AllZip (λ cell twin. AreAlikeCell alike (out-TableCell cell) (out-TableCell twin)) one.cells other.cells
 
--- two tables with fewer than `depth` tables inside one another are the same but for their numbers and `thead` groups
+-- two tables with fewer than `depth` tables inside one another are the same but for their numbers, `thead` groups and sides
 abbrev pub AreAlikeWithin : ℕ → Table → Table → Type 0
 AreAlikeWithin zero one other = ⊥
 AreAlikeWithin (suc depth) one other = AreAlikeBy (AreAlikeWithin depth) (out-Table one) (out-Table other)
 
--- two tables are the same but for the numbers of tables and their `thead` groups
+-- two tables are the same but for the numbers of tables, their `thead` groups and the sides of their cells
 abbrev pub AreAlike : Table → Table → Type 0
 AreAlike one other = (depth : ℕ) × AreAlikeWithin depth one other

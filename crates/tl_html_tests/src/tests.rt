@@ -52,6 +52,7 @@ fn cell(
             bottom,
         },
         least,
+        align: None,
         blocks,
     }
 }

@@ -79,7 +79,7 @@ one_cell one other flat same =
     blocks = one_list (out-TableCell one).blocks (out-TableCell other).blocks flat same.blocks
 
     opened : out-TableCell one ≡ out-TableCell other
-    opened = λ i. record { kind = same.kind i; in_head = same.in_head i; place = same.place i; least = same.least i; blocks = blocks i }
+    opened = λ i. record { kind = same.kind i; in_head = same.in_head i; place = same.place i; least = same.least i; align = same.align i; blocks = blocks i }
 
 one_row : (ones others : List TableCell) → AreFlatCells ones →
     AllZip (λ cell twin. AreSameCell AreSame (out-TableCell cell) (out-TableCell twin)) ones others → ones ≡ others

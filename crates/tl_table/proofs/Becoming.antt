@@ -39,6 +39,7 @@ module _ (some more : TableNode → Table → Type 0) (weaker : (node : TableNod
   BecomesCell-weaker node cell becomes = record {
     kind = becomes.kind;
     least = becomes.least;
+    align = becomes.align;
     blocks = BecomeContents-weaker node.flow cell.blocks becomes.blocks;
   }
 
@@ -60,6 +61,7 @@ module _ (some more : TableNode → Table → Type 0) (weaker : (node : TableNod
       in_head = become.0.in_head;
       place = become.0.place;
       least = become.0.least;
+      align = become.0.align;
       blocks = BecomeContents-weaker flow (out-TableCell cell).blocks become.0.blocks;
     },
     become.1,
@@ -140,7 +142,7 @@ module _ (breaking : Breaking) where
       (depth : ℕ) × BecomesCell (BecomesWithin depth breaking) breaking node cell
   cell_depth node cell becomes =
       let found = contents_depth node.flow cell.blocks becomes.blocks in
-      (found.0, record { kind = becomes.kind; least = becomes.least; blocks = found.1 })
+      (found.0, record { kind = becomes.kind; least = becomes.least; align = becomes.align; blocks = found.1 })
 
   cells_depth : (nodes : List CellNode) (cells : List TableCell) → BecomeCells (Becomes breaking) breaking nodes cells →
       (depth : ℕ) × BecomeCells (BecomesWithin depth breaking) breaking nodes cells
@@ -168,6 +170,7 @@ module _ (breaking : Breaking) where
             in_head = become.0.in_head;
             place = become.0.place;
             least = become.0.least;
+            align = become.0.align;
             blocks = found.1;
           },
           become.1,

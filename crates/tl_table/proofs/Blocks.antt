@@ -42,7 +42,7 @@ alone-append (caption ∷ xs) ys = alone-append xs ys
 alone-append (columns n ∷ xs) ys = alone-append xs ys
 alone-append (group part ∷ xs) ys = alone-append xs ys
 alone-append (row ∷ xs) ys = alone-append xs ys
-alone-append (cell head colspan rowspan least ∷ xs) ys = alone-append xs ys
+alone-append (cell head colspan rowspan least align ∷ xs) ys = alone-append xs ys
 alone-append (paragraph atoms ∷ xs) ys = alone-append xs ys
 
 pub alone-nested : (most depth : ℕ) (es : Entries) → IsNestedBelow most depth es → IsNestedBelow most depth (tables_alone es)
@@ -53,7 +53,7 @@ alone-nested most depth (caption ∷ es) nested = alone-nested most depth es nes
 alone-nested most depth (columns n ∷ es) nested = alone-nested most depth es nested
 alone-nested most depth (group part ∷ es) nested = alone-nested most depth es nested
 alone-nested most depth (row ∷ es) nested = alone-nested most depth es nested
-alone-nested most depth (cell head colspan rowspan least ∷ es) nested = alone-nested most depth es nested
+alone-nested most depth (cell head colspan rowspan least align ∷ es) nested = alone-nested most depth es nested
 alone-nested most depth (paragraph atoms ∷ es) nested = alone-nested most depth es nested
 
 pub alone-count : (es : Entries) → table_count (tables_alone es) ≡ table_count es
@@ -64,7 +64,7 @@ alone-count (caption ∷ es) = alone-count es
 alone-count (columns n ∷ es) = alone-count es
 alone-count (group part ∷ es) = alone-count es
 alone-count (row ∷ es) = alone-count es
-alone-count (cell head colspan rowspan least ∷ es) = alone-count es
+alone-count (cell head colspan rowspan least align ∷ es) = alone-count es
 alone-count (paragraph atoms ∷ es) = alone-count es
 
 pub count-append : (xs ys : Entries) → table_count (xs ++ ys) ≡ table_count xs + table_count ys
@@ -75,7 +75,7 @@ count-append (caption ∷ xs) ys = count-append xs ys
 count-append (columns n ∷ xs) ys = count-append xs ys
 count-append (group part ∷ xs) ys = count-append xs ys
 count-append (row ∷ xs) ys = count-append xs ys
-count-append (cell head colspan rowspan least ∷ xs) ys = count-append xs ys
+count-append (cell head colspan rowspan least align ∷ xs) ys = count-append xs ys
 count-append (paragraph atoms ∷ xs) ys = count-append xs ys
 
 -- ---- the blocks of a table, and those of a tree, in one list

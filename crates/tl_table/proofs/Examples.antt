@@ -5,6 +5,7 @@
 --   |aaaa  |       ||a| b|         |a     b|
 --   |bb  c |       (a table in the left cell)     (the left cell has a floor of 4)
 use Rattle.std.proofs.Common.{◌≡◌, ℕ, ◌≤◌, List, [], ◌∷◌, codes, refl, sym, ap, subst, append-nil, arith, false}
+use Rattle.std.proofs.Common.{None}
 use Rattle.std.specs.List.{AllZip}
 use Rattle.std.specs.declared.alloc.Global.{Global}
 use Rattle.std.specs.declared.boxed.Box.{Box}
@@ -100,7 +101,7 @@ uncovered = refl
 -- ---- a floor counts where the cell has fewer columns of text, and where it has none
 
 abbrev floored : OpenCell
-floored = record { kind = kinds.Plain; in_head = false; place = below_left; least = 4; blocks = [] }
+floored = record { kind = kinds.Plain; in_head = false; place = below_left; least = 4; align = None; blocks = [] }
 
 floor_without_words : own_width floored ≡ 4
 floor_without_words = refl
@@ -147,7 +148,7 @@ one_line_fits w h unit units one wide high = (
 -- a cell with one paragraph on one line fits in a room of one line
 cell_fits : (fits : Table → ℕ → ℕ → Layout → Type 0) (w floor : ℕ) (place : Place) (unit : Atom) (units : List Atom) → floor ≤ w →
     lined_pieces (unit ∷ units) ≡ (unit ∷ units) ∷ [] → line_width (unit ∷ units) ≤ w →
-    FitsRoom fits w 1 (record { kind = kinds.Plain; in_head = false; place = place; least = floor; blocks = text (unit ∷ units) ∷ [] }) []
+    FitsRoom fits w 1 (record { kind = kinds.Plain; in_head = false; place = place; least = floor; align = None; blocks = text (unit ∷ units) ∷ [] }) []
 cell_fits fits w floor place unit units narrow one wide = record {
   floor = narrow;
   shares = record { height = 1; inner = [] } ∷ [];
@@ -162,7 +163,7 @@ cell_fits fits w floor place unit units narrow one wide = record {
 }
 
 abbrev cell : Place → ℕ → List Atom → OpenCell
-cell place floor paragraph = record { kind = kinds.Plain; in_head = false; place = place; least = floor; blocks = text paragraph ∷ [] }
+cell place floor paragraph = record { kind = kinds.Plain; in_head = false; place = place; least = floor; align = None; blocks = text paragraph ∷ [] }
 
 abbrev spanned : OpenTable
 spanned = record {

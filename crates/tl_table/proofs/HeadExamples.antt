@@ -17,6 +17,7 @@ at kind in_head left top bottom = record {
   in_head = in_head;
   place = record { left = left; right = left + 1; top = top; bottom = bottom };
   least = 0;
+  align = None;
   blocks = [];
 }
 

@@ -6,6 +6,7 @@
 --                                         |x  yy |     |a     b|
 use Rattle.std.proofs.Common.{◌≡◌, ◌∙◌, ℕ, zero, suc, ◌+◌, ◌<◌, ◌≤◌, List, [], ◌∷◌, ◌++◌, length, sum_by, codes, refl, sym, ap, false}
 use Rattle.std.proofs.Common.{subst, append-nil, arith}
+use Rattle.std.proofs.Common.{None}
 use Rattle.std.specs.List.{AllZip, AllByRecursion}
 use Rattle.std.proofs.lemmas.List.Sums.{sum_by-cons}
 use Rattle.unicode_width.proofs.Computing.{unicode_width}
@@ -148,7 +149,7 @@ abbrev text : List Atom → Content
 text paragraph = roll-Content (open_content.Para paragraph)
 
 abbrev cell : Place → ℕ → List Atom → OpenCell
-cell place floor paragraph = record { kind = kinds.Plain; in_head = false; place = place; least = floor; blocks = text paragraph ∷ [] }
+cell place floor paragraph = record { kind = kinds.Plain; in_head = false; place = place; least = floor; align = None; blocks = text paragraph ∷ [] }
 
 -- what fits in a room has its paragraph in it
 in_room : (fits : Table → ℕ → ℕ → Layout → Type 0) (w h : ℕ) (place : Place) (floor : ℕ) (paragraph : List Atom)
@@ -454,7 +455,7 @@ none_at_6 fits h layout by = at layout.widths layout.heights layout.inner by
 -- ---- the first table in the one cell of another
 
 abbrev around : Box Table Global → OpenCell
-around box = record { kind = kinds.Plain; in_head = false; place = left; least = 0; blocks = roll-Content (open_content.Table box) ∷ [] }
+around box = record { kind = kinds.Plain; in_head = false; place = left; least = 0; align = None; blocks = roll-Content (open_content.Table box) ∷ [] }
 
 abbrev outer : Box Table Global → OpenTable
 outer box = record { number = 0; cols = 1; rows = 1; cells = roll-TableCell (around box) ∷ [] }

@@ -142,7 +142,7 @@ alone-numbered k (caption ∷ es) numbered = alone-numbered k es numbered
 alone-numbered k (columns n ∷ es) numbered = alone-numbered k es numbered
 alone-numbered k (group part ∷ es) numbered = alone-numbered k es numbered
 alone-numbered k (row ∷ es) numbered = alone-numbered k es numbered
-alone-numbered k (cell head colspan rowspan least ∷ es) numbered = alone-numbered k es numbered
+alone-numbered k (cell head colspan rowspan least align ∷ es) numbered = alone-numbered k es numbered
 alone-numbered k (paragraph atoms ∷ es) numbered = alone-numbered k es numbered
 
 -- tables of at most so many tables are numbered in order, and what follows them goes on

@@ -174,6 +174,7 @@ module _ (same : TableNode → TableNode → Type 0) (some other : TableNode →
       in_head = let here : is_in_head c ≡ is_in_head d = cc in here;
       place = let here : place_of c ≡ place_of d = cc in here;
       least = first.0.least ∙ is.0.least ∙ sym second.0.least;
+      align = first.0.align ∙ is.0.align ∙ sym second.0.align;
       blocks = contents_twins (out-CellNode x).flow (out-CellNode y).flow (out-TableCell c).blocks
           (out-TableCell d).blocks is.0.flow first.0.blocks
           second.0.blocks;
@@ -200,6 +201,7 @@ module _ (same : TableNode → TableNode → Type 0) (some other : TableNode →
       place = first.0.place ∙ ap (λ cols. let p : Place = record { left = 0; right = cols; top = 0; bottom = 1 } in
           p) wide ∙ sym second.0.place;
       least = first.0.least ∙ sym second.0.least;
+      align = first.0.align ∙ sym second.0.align;
       blocks = contents_twins one two (out-TableCell c).blocks (out-TableCell d).blocks is first.0.blocks second.0.blocks;
     },
     subst (λ (none : List TableCell). AllZip (λ a b. AreSameCell twins (out-TableCell a) (out-TableCell b)) none ds) (sym first.1)
@@ -390,6 +392,7 @@ module _ (same : TableNode → TableNode → Type 0) (some : TableNode → Table
       colspan = refl;
       rowspan = refl;
       least = refl;
+      align = refl;
       flow = flow_itself (out-CellNode node).flow (out-TableCell cell).blocks become.0.blocks;
     },
     cells_itself nodes cells become.1,

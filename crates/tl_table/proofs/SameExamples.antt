@@ -5,6 +5,7 @@
 --   |a| |      | |a|      |a a| |       |a     |
 --                                       ||a| | |   (the inner table in a box)
 use Rattle.std.proofs.Common.{◌≡◌, ℕ, zero, suc, List, [], ◌∷◌, codes, length, refl, sym, ap, subst, arith, false}
+use Rattle.std.proofs.Common.{None}
 use Rattle.std.specs.declared.alloc.Global.{Global}
 use Rattle.std.specs.declared.boxed.Box.{Box}
 use Rattle.tl_grid.specs.declared.shape.Place.{Place}
@@ -67,7 +68,7 @@ abbrev right : Place
 right = record { left = 1; right = 2; top = 0; bottom = 1 }
 
 abbrev cell : Place → List Content → OpenCell
-cell place blocks = record { kind = kinds.Plain; in_head = false; place = place; least = 0; blocks = blocks }
+cell place blocks = record { kind = kinds.Plain; in_head = false; place = place; least = 0; align = None; blocks = blocks }
 
 abbrev words : List Atom → OpenContent
 words paragraph = open_content.Para paragraph
@@ -114,6 +115,7 @@ here_itself = table_rolled (AreSameWithin 0) here here (record {
           in_head = refl;
           place = refl;
           least = refl;
+          align = refl;
           blocks = (content_rolled (AreSameWithin 0) (words (a ∷ [])) (words (a ∷ [])) refl, tt);
         }),
     tt,
@@ -134,6 +136,7 @@ boxes_apart one other is are = (
         in_head = refl;
         place = refl;
         least = refl;
+        align = refl;
         blocks = (
           content_rolled (AreSameWithin 1) (words (a ∷ [])) (words (a ∷ [])) refl,
           (

@@ -105,6 +105,7 @@ module _ (some more : Table → Table → Type 0) (weaker : (a b : Table) → so
     in_head = is.in_head;
     place = is.place;
     least = is.least;
+    align = is.align;
     blocks = zip_weaker (λ c d. AreSameContent some (out-Content c) (out-Content d))
         (λ c d. AreSameContent more (out-Content c) (out-Content d))
         (λ c d one. content_weaker (out-Content c) (out-Content d) one) a.blocks b.blocks is.blocks;
@@ -133,6 +134,7 @@ module _ (some more : Table → Table → Type 0) (turned : (a b : Table) → so
     in_head = sym is.in_head;
     place = sym is.place;
     least = sym is.least;
+    align = sym is.align;
     blocks = zip_turned (λ c d. AreSameContent some (out-Content c) (out-Content d))
         (λ c d. AreSameContent more (out-Content c) (out-Content d))
         (λ c d one. content_turned (out-Content c) (out-Content d) one) a.blocks b.blocks is.blocks;

@@ -296,7 +296,7 @@ cells_small forms small breaking (node ∷ nodes) (one ∷ cells) become = omega
   contents_small forms small breaking (flow_of node) (out-TableCell one).blocks become.0.blocks,
   ap (sum_by entry_size) (cell_outline-out node),
   sum_by-cons entry_size (cell (out-CellNode node).head (out-CellNode node).colspan (out-CellNode node).rowspan
-      (out-CellNode node).least)
+      (out-CellNode node).least (out-CellNode node).align)
       (blocks_outline (flow_of node)),
   sum_by-append entry_size (cell_outline node) (cells_outline nodes),
   cells_small forms small breaking nodes cells become.1,

@@ -34,7 +34,7 @@ block_outline-out block = ap block_outline (sym (roll-out-Block block)) ∙ made
     made (open_block.Table box) = nested_made box
 
 pub cell_outline-out : (node : CellNode) → let open_node = out-CellNode node in
-    cell_outline node ≡ cell open_node.head open_node.colspan open_node.rowspan open_node.least ∷ blocks_outline open_node.flow
+    cell_outline node ≡ cell open_node.head open_node.colspan open_node.rowspan open_node.least open_node.align ∷ blocks_outline open_node.flow
 cell_outline-out node = ap cell_outline (sym (roll-out-CellNode node)) ∙ cell_made (out-CellNode node)
 
 -- the entries of rows
@@ -162,7 +162,7 @@ row_size (node ∷ nodes) =
     let split = sum_by-append entry_size (cell_outline node) (cells_outline nodes) in
     let one = ap (sum_by entry_size) (cell_outline-out node) in
     let first = sum_by-cons entry_size (cell (out-CellNode node).head (out-CellNode node).colspan (out-CellNode node).rowspan
-    (out-CellNode node).least)
+    (out-CellNode node).least (out-CellNode node).align)
     (blocks_outline (out-CellNode node).flow) in
     let rest = row_size nodes in
     omega (arith, ap (sum_by entry_size) (flat_map-cons cell_outline node nodes))

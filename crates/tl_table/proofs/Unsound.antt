@@ -3,6 +3,7 @@
 -- rows and cells than a grid may have: the one more is for the caption.
 use Rattle.std.proofs.Common.{◌≡◌, ◌∙◌, ℕ, zero, suc, ◌+◌, ◌≤◌, Bool, true, false, List, [], ◌∷◌, ◌++◌, length, refl, sym, ap}
 use Rattle.std.proofs.Common.{subst, arith}
+use Rattle.std.proofs.Common.{None}
 use Rattle.std.specs.List.{AllByRecursion}
 use Rattle.tl_base.specs.declared.limits.TheConstants.{MAX_CELLS, MAX_ROWS}
 use Rattle.tl_grid.specs.declared.shape.Place.{Place}
@@ -22,7 +23,7 @@ abbrev place : Place
 place = record { left = 0; right = 1; top = 0; bottom = 1 }
 
 abbrev open_cell : OpenCell
-open_cell = record { kind = kinds.Caption; in_head = false; place = place; least = 1; blocks = [] }
+open_cell = record { kind = kinds.Caption; in_head = false; place = place; least = 1; align = None; blocks = [] }
 
 abbrev cell : TableCell
 cell = roll-TableCell open_cell

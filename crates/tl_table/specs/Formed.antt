@@ -131,6 +131,7 @@ pub record BecomesCell (forms : TableNode → Table → Type 0) (breaking : Brea
     (cell : OpenCell) : Type 0 where
   pub kind : cell.kind ≡ header_kind node.head
   pub least : cell.least ≡ node.least
+  pub align : cell.align ≡ node.align
   pub blocks : BecomeContents forms breaking node.flow cell.blocks
 
 -- the cells of the tree become these, in order
@@ -157,6 +158,7 @@ pub record BecomesCaption (forms : TableNode → Table → Type 0) (breaking : B
   pub in_head : cell.in_head ≡ false
   pub place : cell.place ≡ record { left = 0; right = cols; top = 0; bottom = 1 }
   pub least : cell.least ≡ 0
+  pub align : cell.align ≡ None
   pub blocks : BecomeContents forms breaking flow cell.blocks
 
 -- a caption becomes one cell, and none becomes none

@@ -22,6 +22,7 @@ pub record AreSameCell (same : Table → Table → Type 0) (one other : OpenCell
   pub in_head : one.in_head ≡ other.in_head
   pub place : one.place ≡ other.place
   pub least : one.least ≡ other.least
+  pub align : one.align ≡ other.align
   pub blocks : AllZip (λ block content. AreSameContent same (out-Content block) (out-Content content)) one.blocks other.blocks
 
 -- two tables are the same, where `same` says so of the tables nested in their cells

@@ -2,6 +2,7 @@
 
 use tl_base::List;
 use tl_grid::Place;
+use tl_sides::Side;
 use tl_text::Para;
 
 /// What a cell is in its table.
@@ -38,6 +39,8 @@ pub struct TableCell {
     /// Its floor: how many columns of the page its room has at least, up to
     /// [`tl_base::MAX_PAGE_WIDTH`].
     pub least: u32,
+    /// The side of its place that it asks for. A caption asks for none.
+    pub align: Option<Side>,
     /// Its blocks, from top to bottom.
     pub blocks: List<Content>,
 }

@@ -188,6 +188,7 @@ fn cell(
         colspan: _,
         rowspan: _,
         least,
+        align,
         flow,
     } = node;
     let blocks = contents(alloc, flow, breaking)?;
@@ -196,6 +197,7 @@ fn cell(
         in_head,
         place,
         least,
+        align,
         blocks,
     })
 }
@@ -225,6 +227,7 @@ fn caption_cells(
         in_head: false,
         place,
         least: 0,
+        align: None,
         blocks,
     })?;
     Ok(cells)

@@ -4,7 +4,8 @@ use Rattle.std.specs.Prelude.{codes}
 use Rattle.std.specs.Str.{chars}
 use lib.Utf8.{encode}
 use Rattle.tl_token.specs.Numbers.{number_of, columns_spanned, rows_spanned, floor_of}
-use Rattle.tl_token.specs.Elements.{element_of}
+use Rattle.tl_sides.specs.declared.side.Side.TheVariants.{Right}
+use Rattle.tl_token.specs.Elements.{element_of, attribute_side}
 use Rattle.tl_token.specs.Grammar.{past_first, Comment, unquoted, quoted, end, gap, attribute, IsTag, reference, hidden}
 use Rattle.tl_token.specs.Grammar.{character, plain}
 use Rattle.tl_token.specs.Grammar.{by_reference, bad_character, IsUnendedTag}
@@ -103,6 +104,17 @@ any_case = refl
 
 no_element : element_of (codes "img") ≡ None
 no_element = refl
+
+-- sides: the first attribute of the name counts, in any case, also where it names none
+first_side : attribute_side
+    (record { name = codes "Align"; value = codes "RIGHT" } ∷ record { name = codes "align"; value = codes "left" } ∷ [])
+    ≡ Some Right
+first_side = refl
+
+no_side : attribute_side
+    (record { name = codes "align"; value = codes " right" } ∷ record { name = codes "align"; value = codes "left" } ∷ [])
+    ≡ None
+no_side = refl
 
 -- a comment does not separate the text around it: `a`, eight bytes of comment, `b`
 one_text : tokens_of

@@ -1,4 +1,4 @@
--- The elements by their names, and the numbers that their start tags give.
+-- The elements by their names, and the numbers and the side that their start tags give.
 use Rattle.std.specs.Prelude.{ℕ, Bool, ◌||◌, List, [], ◌∷◌, Option, Some, None, option_and_then, map, if◌then◌else◌, codes}
 use Rattle.std.specs.Char.{to_ascii_lowercase, is_ascii_lowercase}
 use Rattle.std.specs.List.{list_all}
@@ -6,6 +6,8 @@ use Rattle.tl_token.specs.Characters.{◌∈◌}
 use lib.Pointwise.{pointwise}
 use Rattle.std.specs.Prelude.{nat_eq}
 use Rattle.tl_token.specs.Numbers.{number_of, columns_spanned, rows_spanned, floor_of}
+use Rattle.tl_sides.specs.declared.side.Side.{Side}
+use Rattle.tl_sides.specs.declared.side.Side.TheVariants.{Left, Right, Center}
 use Rattle.tl_token.specs.declared.token.Element.{Element}
 use Rattle.tl_token.specs.declared.token.Element.TheVariants.{Table, Caption, Colgroup, Col, Thead, Tbody, Tfoot, Tr, Td, Th, Br}
 use Rattle.tl_token.specs.declared.token.Element.TheVariants.{P, Div, Inline, Outer}
@@ -77,17 +79,30 @@ value_of word (a ∷ others) = if is_word a.name word then Some a.value else val
 abbrev pub attribute_number : List ℕ → List Attribute → Option ℕ
 attribute_number word attributes = option_and_then number_of (value_of word attributes)
 
+-- the side of that name, in any case
+abbrev pub side_named : List ℕ → Option Side
+side_named name =
+    if is_word name (codes "left") then Some Left
+    else if is_word name (codes "right") then Some Right
+    else if is_word name (codes "center") then Some Center
+    else None
+
+-- the side that the first attribute `align` names
+abbrev pub attribute_side : List Attribute → Option Side
+attribute_side attributes = option_and_then side_named (value_of (codes "align") attributes)
+
 -- the numbers of an element that has none
 abbrev pub no_spans : Spans
-no_spans = record { colspan = 1; rowspan = 1; span = 1; least = 0 }
+no_spans = record { colspan = 1; rowspan = 1; span = 1; least = 0; align = None }
 
--- the numbers of a cell
+-- the numbers and the side of a cell
 abbrev pub cell_spans : List Attribute → Spans
 cell_spans attributes = record {
   colspan = columns_spanned (attribute_number (codes "colspan") attributes);
   rowspan = rows_spanned (attribute_number (codes "rowspan") attributes);
   span = 1;
   least = floor_of (attribute_number (codes "data-min") attributes);
+  align = attribute_side attributes;
 }
 
 -- the numbers of a `col` or a `colgroup`
@@ -97,6 +112,7 @@ column_spans attributes = record {
   rowspan = 1;
   span = columns_spanned (attribute_number (codes "span") attributes);
   least = 0;
+  align = None;
 }
 
 -- a cell has its own numbers, a `col` and a `colgroup` their span, and no other element has any

@@ -11,6 +11,7 @@ mod output;
 mod piece;
 mod reader;
 mod reference;
+mod side;
 mod tag;
 mod token;
 

@@ -1,4 +1,4 @@
-//! The tags of a file, with the numbers of their attributes.
+//! The tags of a file, with the numbers and the side of their attributes.
 
 ghost use Rattle.std.specs.Prelude.{◌≡◌, ◌≤◌, IsTrue, false, length, chars, List, [], Err, IfOk};
 ghost use Rattle.tl_token.specs.Characters.{◌∈◌, begins, is_space, is_name_character};
@@ -6,22 +6,26 @@ ghost use Rattle.tl_token.specs.Elements.{Attribute, is_lowercase};
 ghost use Rattle.tl_token.specs.inner.States.{tag_open, in_name, before_value, in_quotes, read, named_attribute};
 ghost use Rattle.tl_token.specs.inner.Reading.{tag_found};
 ghost use Rattle.tl_token.specs.inner.Reader.{unread};
-ghost use Rattle.tl_token.specs.inner.Found.{found_of, attribute_number_after, stop, ReadsValue, ReadsAttributes};
+ghost use Rattle.tl_token.specs.inner.Found.{found_of, attribute_number_after, attribute_side_after, stop, ReadsValue};
+ghost use Rattle.tl_token.specs.inner.Found.{ReadsAttributes};
 
 use crate::elements::is_word;
 use crate::number::{columns, floor, read_number, rows};
 use crate::piece::{Fault, Piece};
 use crate::reader::{Class, Reader};
+use crate::side::side_named;
 use crate::token::{Element, Spans};
+use tl_sides::Side;
 
-/// The numbers of a tag's attributes. Of each name the first attribute counts: `None` where there
-/// is none, and `Some(None)` where it has no number.
+/// The numbers and the side of a tag's attributes. Of each name the first attribute counts: `None` where
+/// there is none, and `Some(None)` where it has no number or names no side.
 #[derive(Clone, Copy)]
 pub(crate) struct Given {
     colspan: Option<Option<u32>>,
     rowspan: Option<Option<u32>>,
     span: Option<Option<u32>>,
     least: Option<Option<u32>>,
+    align: Option<Option<Side>>,
 }
 
 /// The number of the first attribute of a name, with one more attribute.
@@ -41,6 +45,17 @@ fn first_number(
     }
 }
 
+/// The side of the first attribute `align`, with one more attribute.
+fn first_side(known: Option<Option<Side>>, name: &str, value: &str) -> Option<Option<Side>>
+    ensures { result ≡ attribute_side_after known (named_attribute (chars name.now) (chars value.now)) }
+{
+    if known.is_some() || !is_word(name, "align") {
+        known
+    } else {
+        Some(side_named(value))
+    }
+}
+
 impl Given {
     ghost use Rattle.tl_token.specs.Elements.{cell_spans, span_numbers};
     ghost use Rattle.tl_token.specs.inner.Found.{given_of, given_after};
@@ -53,6 +68,7 @@ impl Given {
             rowspan: None,
             span: None,
             least: None,
+            align: None,
         }
     }
 
@@ -64,9 +80,10 @@ impl Given {
         self.rowspan = first_number(self.rowspan, "rowspan", name, value);
         self.span = first_number(self.span, "span", name, value);
         self.least = first_number(self.least, "data-min", name, value);
+        self.align = first_side(self.align, name, value);
     }
 
-    /// The numbers of a cell.
+    /// The numbers and the side of a cell.
     fn cell_spans(&self) -> Spans
         ensures { (all : List Attribute) → self.now ≡ given_of all → result ≡ cell_spans all }
     {
@@ -75,10 +92,11 @@ impl Given {
             rowspan: rows(self.rowspan.unwrap_or(None)),
             span: 1,
             least: floor(self.least.unwrap_or(None)),
+            align: self.align.unwrap_or(None),
         }
     }
 
-    /// The numbers that count for the element.
+    /// The numbers and the side that count for the element.
     fn spans(&self, element: Element) -> Spans
         ensures { (all : List Attribute) → self.now ≡ given_of all → result ≡ span_numbers element all }
     {
@@ -89,12 +107,14 @@ impl Given {
                 rowspan: 1,
                 span: columns(self.span.unwrap_or(None)),
                 least: 0,
+                align: None,
             },
             _ => Spans {
                 colspan: 1,
                 rowspan: 1,
                 span: 1,
                 least: 0,
+                align: None,
             },
         }
     }
@@ -175,7 +195,7 @@ impl<'a> Reader<'a> {
         }
     }
 
-    /// Reads the attributes up to and with the `>`, and gives their numbers.
+    /// Reads the attributes up to and with the `>`, and gives what they ask for.
     fn attributes(&mut self) -> Result<Given, Fault>
         ensures { ReadsAttributes result (unread self.old) (unread self.new) }
     {

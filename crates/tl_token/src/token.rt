@@ -3,6 +3,7 @@
 use std::alloc::{AllocError, AllocFailed};
 use thiserror::Error;
 use tl_base::Text;
+use tl_sides::Side;
 
 /// An element that a table file may have.
 #[derive(Clone, Copy, Debug, PartialEq, Eq)]
@@ -26,7 +27,7 @@ pub enum Element {
     Outer,
 }
 
-/// The numbers that a start tag gives.
+/// The numbers that a start tag gives, and the side that it asks for.
 #[derive(Clone, Copy, Debug, PartialEq, Eq)]
 pub struct Spans {
     /// The columns that a cell covers, 1 to `MAX_COLSPAN`.
@@ -37,6 +38,8 @@ pub struct Spans {
     pub span: u32,
     /// The columns of text that a cell is wide at least, up to `MAX_PAGE_WIDTH`.
     pub least: u32,
+    /// The side of its place that a cell asks for by its attribute `align`.
+    pub align: Option<Side>,
 }
 
 /// What a token is.

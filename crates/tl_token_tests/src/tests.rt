@@ -3,6 +3,7 @@
 use std::alloc::{AllocError, Global};
 use std::process::Abort;
 use std::test::Fail;
+use tl_sides::Side;
 use tl_token::{Element, Spans, Token, TokenError, TokenKind, tokens};
 
 /// One number of a start tag, where it is not the one that a tag has without attributes.
@@ -19,6 +20,14 @@ fn push_number(
     Ok(())
 }
 
+/// The side that a start tag asks for, if it asks for one.
+fn push_side(alloc: Global, line: &mut String, side: Option<Side>) -> Result<(), AllocError> {
+    if let Some(side) = side {
+        line.push_str(format!(in alloc; " @{side:?}")?.as_str())?;
+    }
+    Ok(())
+}
+
 fn push_start(
     alloc: Global,
     line: &mut String,
@@ -29,7 +38,8 @@ fn push_start(
     push_number(alloc, line, 'c', spans.colspan, 1)?;
     push_number(alloc, line, 'r', spans.rowspan, 1)?;
     push_number(alloc, line, 's', spans.span, 1)?;
-    push_number(alloc, line, 'm', spans.least, 0)
+    push_number(alloc, line, 'm', spans.least, 0)?;
+    push_side(alloc, line, spans.align)
 }
 
 /// A token as the tables below write it: `<Td c2 0-14>`, `</Td 0-5>` or `[a text 3-9]`.
@@ -151,6 +161,15 @@ const NUMBERS: &str = "
 <td span=2> => <Td 0-11>
 <col colspan=2 data-min=3> => <Col 0-26>
 <td colspan=2&amp;> => <Td c2 0-19>
+<td align=left> => <Td @Left 0-15>
+<th ALIGN='Right'> => <Th @Right 0-18>
+<td align=CENTER colspan=2> => <Td c2 @Center 0-27>
+<td align=middle> => <Td 0-17>
+<td align=\" right\"> => <Td 0-19>
+<td align align=right> => <Td 0-22>
+<td align=right align=left> => <Td @Right 0-27>
+<tr align=right> => <Tr 0-16>
+<col align=right> => <Col 0-17>
 ";
 
 const TEXTS: &str = "

@@ -31,13 +31,13 @@ regroup g f r x b p e = simp append_assoc
 pub cell_ends : (c : OpenCell) (flow : Flow) (blocks : List Block) (cells : List CellNode) (node : CellNode)
     → blocks_outline blocks ≡ blocks_outline flow.blocks ++ paragraph_of (line_atoms flow.line [])
     → cells ≡ c.row.cells ++ node ∷ []
-    → cell_outline node ≡ cell c.head c.spans.colspan c.spans.rowspan c.spans.least ∷ blocks_outline blocks
+    → cell_outline node ≡ cell c.head c.spans.colspan c.spans.rowspan c.spans.least c.spans.align ∷ blocks_outline blocks
     → Adds (in_flow (cell_so_far c) flow) (after_entries (group_so_far c.row.group ++ row_outline cells)) (paragraph_ends ∷ [])
 cell_ends c flow blocks cells node blocks_are cells_are node_is = record {
   same = λ k later.
       let g = group_so_far c.row.group in
       let e = entries_of k later in
-      let x = cell c.head c.spans.colspan c.spans.rowspan c.spans.least in
+      let x = cell c.head c.spans.colspan c.spans.rowspan c.spans.least c.spans.align in
       ap (λ cs. (g ++ row_outline cs) ++ e) cells_are
       ∙ ap (λ es. (g ++ (row ∷ es)) ++ e)
       (flat_map-push cell_outline c.row.cells node ∙ ap (λ es. flat_map cell_outline c.row.cells ++ es)

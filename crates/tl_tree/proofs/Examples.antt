@@ -7,6 +7,7 @@
 --   a table with a caption and a row       loose rows, a group         a table of three columns
 --   of one cell, in which another stands   and more loose rows
 use Rattle.std.proofs.Common.{◌≡◌, false, Some, List, [], ◌∷◌, ◌++◌, codes, sum_by, refl, ap, ◌∙◌, lit<}
+use Rattle.std.proofs.Common.{None}
 use lib.Utf8.{encode}
 use Rattle.tl_base.specs.declared.limits.TheConstants.{MAX_DEPTH}
 use Rattle.tl_token.specs.declared.token.Element.TheVariants as elements
@@ -35,7 +36,7 @@ use Rattle.tl_tree.proofs.Outlines.{paragraph_made, table_made}
 use Rattle.tl_tree.proofs.Verdicts.{first_refused}
 
 abbrev one : Spans
-one = record { colspan = 1; rowspan = 1; span = 1; least = 0 }
+one = record { colspan = 1; rowspan = 1; span = 1; least = 0; align = None }
 
 -- ---- a caption, and a table in a cell
 
@@ -51,7 +52,7 @@ captioned_marks = grammar.table_begins ∷ grammar.caption_begins ∷ character 
     ∷ grammar.table_begins ∷ grammar.columns 0 ∷ grammar.table_ends ∷ character 100 ∷ paragraph_ends ∷ grammar.table_ends ∷ []
 
 abbrev captioned_entries : Entries
-captioned_entries = table 0 ∷ caption ∷ paragraph (Word (codes "A") ∷ []) ∷ columns 0 ∷ group Loose ∷ row ∷ cell false 1 1 0
+captioned_entries = table 0 ∷ caption ∷ paragraph (Word (codes "A") ∷ []) ∷ columns 0 ∷ group Loose ∷ row ∷ cell false 1 1 0 None
     ∷ paragraph (Word (codes "b") ∷ Break ∷ Word (codes "c") ∷ [])
     ∷ table 1 ∷ columns 0 ∷ table_end ∷ paragraph (Word (codes "d") ∷ []) ∷ table_end ∷ []
 
@@ -122,7 +123,7 @@ spans_of_cols : colgroup_columns 5 (2 ∷ 1 ∷ []) ≡ 3
 spans_of_cols = refl
 
 abbrev of_three : Spans
-of_three = record { colspan = 1; rowspan = 1; span = 3; least = 0 }
+of_three = record { colspan = 1; rowspan = 1; span = 3; least = 0; align = None }
 
 abbrev narrow_tokens : List Token
 narrow_tokens = record { kind = Start elements.Table one; first = 0; past = 7 } ∷ record {
@@ -187,7 +188,7 @@ around_tables : flow_entries (character 97 ∷ grammar.table_begins ∷ grammar.
     Loose ∷ grammar.row_begins
     ∷ grammar.cell_begins false one ∷ grammar.table_begins ∷ grammar.columns
     0 ∷ grammar.table_ends ∷ paragraph_ends ∷ grammar.table_ends ∷ character 98 ∷ [])
-    ≡ paragraph (Word (codes "a") ∷ []) ∷ table 1 ∷ columns 0 ∷ group Loose ∷ row ∷ cell false 1 1 0 ∷ table 2 ∷ columns
+    ≡ paragraph (Word (codes "a") ∷ []) ∷ table 1 ∷ columns 0 ∷ group Loose ∷ row ∷ cell false 1 1 0 None ∷ table 2 ∷ columns
     0 ∷ table_end ∷ table_end
     ∷ paragraph (Word (codes "b") ∷ []) ∷ []
 around_tables = refl

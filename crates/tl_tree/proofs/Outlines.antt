@@ -41,9 +41,9 @@ pub nested_block : (box : Box TableNode Global) → block_outline (Table box) �
 nested_block box = ap block_outline (sym (rolls-Table box)) ∙ nested_made box
 
 pub cell_made : (c : parts.CellNode-F Block CellNode GroupNode TableNode)
-    → cell_outline (roll-CellNode c) ≡ cell c.head c.colspan c.rowspan c.least ∷ flat_map block_outline c.flow
+    → cell_outline (roll-CellNode c) ≡ cell c.head c.colspan c.rowspan c.least c.align ∷ flat_map block_outline c.flow
 cell_made c = fold-roll-CellNode Entries Entries Entries Entries block_entries cell_entries group_entries table_entries c
-    ∙ ap (λ es. cell c.head c.colspan c.rowspan c.least ∷ es) (joined-map block_outline c.flow)
+    ∙ ap (λ es. cell c.head c.colspan c.rowspan c.least c.align ∷ es) (joined-map block_outline c.flow)
 
 pub group_made : (g : parts.GroupNode-F Block CellNode GroupNode TableNode)
     → group_outline (roll-GroupNode g) ≡ group g.part ∷ flat_map (λ cells. row ∷ flat_map cell_outline cells) g.rows

@@ -25,7 +25,7 @@ use Rattle.tl_tree.proofs.Verdicts.{same_marks}
 abbrev rank : Entry → ℕ
 rank (table number) = 0
 rank (paragraph atoms) = 0
-rank (cell head colspan rowspan least) = 1
+rank (cell head colspan rowspan least align) = 1
 rank row = 2
 rank (group part) = 3
 rank caption = 4
@@ -83,7 +83,7 @@ block_opened b = ap block_outline (sym (roll-out-Block b)) ∙ made (out-Block b
     made (parts.Table box) = nested_made box
 
 abbrev open_cell : OpenCell → Entries
-open_cell c = cell c.head c.colspan c.rowspan c.least ∷ flat_map block_outline c.flow
+open_cell c = cell c.head c.colspan c.rowspan c.least c.align ∷ flat_map block_outline c.flow
 
 cell_opened : (c : CellNode) → cell_outline c ≡ open_cell (out-CellNode c)
 cell_opened c = ap cell_outline (sym (roll-out-CellNode c)) ∙ cell_made (out-CellNode c)
@@ -146,7 +146,7 @@ module _ (n : ℕ) (same : TableNode → TableNode → Type 0)
       → open_cell x ++ r ≡ open_cell y ++ s → AreSameCell same x y × (r ≡ s)
   open_cell_same x y r s h i few e =
       let flows = flow_same x.flow y.flow r s h i (omega arith) (tail_same e) in
-      (record { head = cc; colspan = cc; rowspan = cc; least = cc; flow = flows.0 }, flows.1)
+      (record { head = cc; colspan = cc; rowspan = cc; least = cc; align = cc; flow = flows.0 }, flows.1)
 
   cell_same : (x y : CellNode) (r s : Entries) → 1 ≤ first_rank r → 1 ≤ first_rank s → length (cell_outline x ++ r) ≤ n
       → cell_outline x ++ r ≡ cell_outline y ++ s → AreSameCell same (out-CellNode x) (out-CellNode y) × (r ≡ s)

@@ -2,6 +2,7 @@
 -- a group or a caption ends where the next thing cannot be a part of it.
 use Rattle.std.specs.Prelude.{ℕ, Bool, Option, Some, None, List, [], ◌∷◌, ◌++◌}
 use Rattle.std.specs.List.{flat_map}
+use Rattle.tl_sides.specs.declared.side.Side.{Side}
 use Rattle.tl_text.specs.declared.paragraph.Atom.{Atom}
 use Rattle.tl_tree.specs.declared.node.Part.{Part}
 use Rattle.tl_tree.specs.declared.node.Block.{Block, fold-Block}
@@ -19,8 +20,8 @@ pub data Entry : Type 0 where
   columns : ℕ → Entry
   group : Part → Entry
   row : Entry
-  -- whether it is a header cell, its colspan, its rowspan, and how wide it is at least
-  cell : Bool → ℕ → ℕ → ℕ → Entry
+  -- whether it is a header cell, its colspan, its rowspan, how wide it is at least, and the side that it asks for
+  cell : Bool → ℕ → ℕ → ℕ → Option Side → Entry
   paragraph : List Atom → Entry
   -- a table ends
   table_end : Entry
@@ -49,7 +50,7 @@ block_entries (parts.Table box) = box.value
 
 -- a cell, and the entries of its flow
 abbrev pub cell_entries : parts.CellNode-F Entries Entries Entries Entries → Entries
-cell_entries c = cell c.head c.colspan c.rowspan c.least ∷ joined_entries c.flow
+cell_entries c = cell c.head c.colspan c.rowspan c.least c.align ∷ joined_entries c.flow
 
 -- a group, and the entries of its rows
 abbrev pub group_entries : parts.GroupNode-F Entries Entries Entries Entries → Entries

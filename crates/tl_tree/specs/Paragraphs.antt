@@ -43,7 +43,7 @@ entry_of k marks.caption_begins = caption ∷ []
 entry_of k (marks.columns n) = columns n ∷ []
 entry_of k (marks.group_begins part) = group part ∷ []
 entry_of k marks.row_begins = row ∷ []
-entry_of k (marks.cell_begins head spans) = cell head spans.colspan spans.rowspan spans.least ∷ []
+entry_of k (marks.cell_begins head spans) = cell head spans.colspan spans.rowspan spans.least spans.align ∷ []
 entry_of k marks.table_ends = table_end ∷ []
 entry_of k _ = []
 

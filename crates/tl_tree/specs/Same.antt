@@ -34,12 +34,13 @@ AreSameBlock same (parts.Table one) (parts.Table other) = same one.value other.v
 abbrev pub AreSameFlow : (TableNode → TableNode → Type 0) → List Block → List Block → Type 0
 AreSameFlow same one other = AllZip (λ block twin. AreSameBlock same (out-Block block) (out-Block twin)) one other
 
--- two cells are of one kind, have the same numbers and hold the same flow
+-- two cells are of one kind, have the same numbers, ask for the same side and hold the same flow
 pub record AreSameCell (same : TableNode → TableNode → Type 0) (one other : OpenCell) : Type 0 where
   pub head : one.head ≡ other.head
   pub colspan : one.colspan ≡ other.colspan
   pub rowspan : one.rowspan ≡ other.rowspan
   pub least : one.least ≡ other.least
+  pub align : one.align ≡ other.align
   pub flow : AreSameFlow same one.flow other.flow
 
 -- two rows hold the same cells in order

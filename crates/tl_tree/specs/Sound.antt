@@ -51,7 +51,7 @@ pub record IsPlainParagraph (p : List Atom) : Type 0 where
 
 -- the numbers of an entry are in their ranges, and a paragraph has whole words without control characters
 abbrev pub IsEntryInRange : Entry → Type 0
-IsEntryInRange (cell head colspan rowspan least) = IsCellInRange colspan rowspan least
+IsEntryInRange (cell head colspan rowspan least align) = IsCellInRange colspan rowspan least
 IsEntryInRange (columns n) = n ≤ MAX_DECLARED_COLUMNS
 IsEntryInRange (paragraph p) = IsPlainParagraph p
 IsEntryInRange _ = Unit {0}
@@ -61,7 +61,7 @@ IsEntryInRange _ = Unit {0}
 abbrev pub entry_size : Entry → ℕ
 entry_size (table number) = 1
 entry_size row = 1
-entry_size (cell head colspan rowspan least) = 1
+entry_size (cell head colspan rowspan least align) = 1
 entry_size (paragraph p) = sum_by atom_size p
 entry_size _ = 0
 

@@ -2,6 +2,7 @@
 //! further tables. It is the table of the HTML Standard, section 4.9, before its grid is formed.
 
 use tl_base::List;
+use tl_sides::Side;
 use tl_text::Para;
 
 /// A block of a flow: a paragraph, or a table nested in it.
@@ -24,6 +25,8 @@ pub struct CellNode {
     pub rowspan: u32,
     /// How many columns of text it is wide at least, up to `MAX_PAGE_WIDTH`.
     pub least: u32,
+    /// The side of its place that it asks for by its attribute `align`.
+    pub align: Option<Side>,
     /// The paragraphs and nested tables, in order.
     pub flow: List<Block>,
 }

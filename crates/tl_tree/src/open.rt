@@ -186,6 +186,7 @@ impl OpenCell {
             colspan: spans.colspan,
             rowspan: spans.rowspan,
             least: spans.least,
+            align: spans.align,
             flow,
         })?;
         Ok(row)

@@ -4,6 +4,7 @@ use std::alloc::{AllocError, Global};
 use std::process::Abort;
 use std::test::Fail;
 use tl_base::{List, MAX_FILE_BYTES};
+use tl_sides::Side;
 use tl_text::{Atom, Para};
 use tl_token::{Token, tokens};
 use tl_tree::{Block, CellNode, GroupNode, Part, TableNode, TreeError, tree};
@@ -36,6 +37,14 @@ fn push_number(
     Ok(())
 }
 
+/// The side that a cell asks for, if it asks for one.
+fn push_side(alloc: Global, line: &mut String, side: Option<Side>) -> Result<(), AllocError> {
+    if let Some(side) = side {
+        line.push_str(format!(in alloc; "@{side:?}")?.as_str())?;
+    }
+    Ok(())
+}
+
 #[cycle(shown)]
 fn push_flow(alloc: Global, line: &mut String, flow: &List<Block>) -> Result<(), AllocError> {
     for block in flow.as_slice() {
@@ -47,13 +56,14 @@ fn push_flow(alloc: Global, line: &mut String, flow: &List<Block>) -> Result<(),
     Ok(())
 }
 
-/// A cell: `d(a)`, or `hc2r0m4(b)` for a header cell with numbers of its own.
+/// A cell: `d(a)`, or `hc2r0m4@Right(b)` for a header cell with numbers and a side of its own.
 #[cycle(shown)]
 fn push_cell(alloc: Global, line: &mut String, cell: &CellNode) -> Result<(), AllocError> {
     line.push_str(if cell.head { " h" } else { " d" })?;
     push_number(alloc, line, 'c', cell.colspan, 1)?;
     push_number(alloc, line, 'r', cell.rowspan, 1)?;
     push_number(alloc, line, 'm', cell.least, 0)?;
+    push_side(alloc, line, cell.align)?;
     push_flow(alloc, line, &cell.flow)
 }
 
@@ -149,6 +159,7 @@ const TABLES: &str = "
 <table><tr><td>a<tbody><tr><td>b</tbody><tr><td>c<tr><td>d</table> => [T0 Loose{| d(a)} Body{| d(b)} Loose{| d(c)| d(d)}]
 <table><tr><td colspan=2><th rowspan=0><td rowspan=3 data-min=4>a</table> => [T0 Loose{| dc2 hr0 dr3m4(a)}]
 <table><tr><th colspan=2000 rowspan=70000 data-min=600></table> => [T0 Loose{| hc1000r65534m500}]
+<table><tr align=right><td>a<th colspan=2 align=Center>b</table> => [T0 Loose{| d(a) hc2@Center(b)}]
 ";
 
 /// The files of a page's first examples: words that break, breaks, references, a nested table and a caption.

@@ -4,7 +4,8 @@ use Rattle.std.specs.Prelude.{◌≡◌, ℕ, min, List, [], ◌∷◌, Option, 
 use Rattle.std.specs.Prelude.{if◌then◌else◌, codes}
 use Rattle.std.specs.Option.{option_map}
 use Rattle.tl_token.specs.Numbers.{number_of}
-use Rattle.tl_token.specs.Elements.{Attribute, Tag, is_word, value_of}
+use Rattle.tl_sides.specs.declared.side.Side.{Side}
+use Rattle.tl_token.specs.Elements.{Attribute, Tag, is_word, value_of, side_named}
 use Rattle.tl_token.specs.Grammar.{hidden, tag, character, unended_tag, unended_comment, bad_tag, unknown_element, bad_reference}
 use Rattle.tl_token.specs.Grammar.{bad_character}
 use Rattle.tl_token.specs.Grammar as grammar
@@ -61,22 +62,33 @@ attribute_number_after (Some known) word a = Some known
 attribute_number_after None word a =
     if is_word a.name word then Some (option_map (λ n. min n 4294967295) (number_of a.value)) else None
 
--- the numbers of the attributes that a tag has so far
+-- the side of the first attribute `align`, where there is one
+abbrev pub side_in : List Attribute → Option (Option Side)
+side_in attributes = option_map side_named (value_of (codes "align") attributes)
+
+-- the side of the first attribute `align`, with one more attribute
+abbrev pub attribute_side_after : Option (Option Side) → Attribute → Option (Option Side)
+attribute_side_after (Some known) a = Some known
+attribute_side_after None a = if is_word a.name (codes "align") then Some (side_named a.value) else None
+
+-- the numbers and the side of the attributes that a tag has so far
 abbrev pub given_of : List Attribute → Given
 given_of attributes = record {
   colspan = number_in (codes "colspan") attributes;
   rowspan = number_in (codes "rowspan") attributes;
   span = number_in (codes "span") attributes;
   least = number_in (codes "data-min") attributes;
+  align = side_in attributes;
 }
 
--- the numbers of the attributes, with one more attribute
+-- the numbers and the side of the attributes, with one more attribute
 abbrev pub given_after : Given → Attribute → Given
 given_after given a = record {
   colspan = attribute_number_after given.colspan (codes "colspan") a;
   rowspan = attribute_number_after given.rowspan (codes "rowspan") a;
   span = attribute_number_after given.span (codes "span") a;
   least = attribute_number_after given.least (codes "data-min") a;
+  align = attribute_side_after given.align a;
 }
 
 -- what a text is, read as a tag that cannot go on there
@@ -96,7 +108,7 @@ ReadsValue state text result old new = (t : Tag) (name : List ℕ) → MatchResu
     (λ value. read (state t name) old ≡ read (between (with_attribute t name (text value))) new)
     (λ fault. Stops (state t name) old fault)
 
--- The attributes of a tag, with their numbers, were read from old up to the `>`, and new is left;
+-- The attributes of a tag, with what they ask for, were read from old up to the `>`, and new is left;
 -- or the tag is broken there.
 abbrev pub ReadsAttributes : Result Given Fault → List ℕ → List ℕ → Type 0
 ReadsAttributes result old new = MatchResult result

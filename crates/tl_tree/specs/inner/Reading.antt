@@ -41,7 +41,7 @@ row_so_far r = group_so_far r.group ++ row_outline r.cells
 
 -- the entries of a table up to the cell that is open, whose flow comes after them
 abbrev pub cell_so_far : OpenCell → Entries
-cell_so_far c = row_so_far c.row ++ (cell c.head c.spans.colspan c.spans.rowspan c.spans.least ∷ [])
+cell_so_far c = row_so_far c.row ++ (cell c.head c.spans.colspan c.spans.rowspan c.spans.least c.spans.align ∷ [])
 
 -- the entries of a table up to the caption or the cell that is open
 abbrev pub holder_so_far : Holder → Entries

@@ -2,7 +2,7 @@ use Rattle.std.proofs.Common.{ap, ◌∙◌, None, unwrap_or}
 use Rattle.std.specs.Prelude.{codes}
 use Rattle.tl_token.specs.Numbers.{columns_spanned, rows_spanned, floor_of}
 use Rattle.tl_token.specs.declared.tag.Given.{Given}
-use Rattle.tl_token.proofs.Numbered.{columns_in, rows_in, floor_in}
+use Rattle.tl_token.proofs.Numbered.{columns_in, rows_in, floor_in, align_in}
 use Rattle.tl_token.proofs.tag.Given.cell_spans.Goals as goal
 
 pub returns : goal.returns
@@ -13,4 +13,5 @@ returns c = λ all e.
     e) ∙ rows_in (codes "rowspan") all in
     let least = c.floor.ensures ∙ ap floor_of (c.unwrap_or-3.ensures ∙ ap (λ (g : Given). unwrap_or (g.least) None)
     e) ∙ floor_in (codes "data-min") all in
-    λ i. record { colspan = colspan i; rowspan = rowspan i; span = 1; least = least i }
+    let align = c.unwrap_or-4.ensures ∙ ap (λ (g : Given). unwrap_or (g.align) None) e ∙ align_in all in
+    λ i. record { colspan = colspan i; rowspan = rowspan i; span = 1; least = least i; align = align i }
