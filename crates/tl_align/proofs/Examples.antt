@@ -1,6 +1,8 @@
 -- The definitions, run on texts and on small tables that are drawn and counted by hand: `h` is a header cell, `d` any other.
 use Rattle.std.proofs.Common.{◌≡◌, ℕ, true, false, List, [], ◌∷◌, ◌+◌, ◌∙◌, codes, sym, refl}
-use Rattle.tl_sides.specs.declared.align.Align.TheVariants.{Columns, Auto}
+use Rattle.std.proofs.Common.{None, Some, Option}
+use Rattle.tl_sides.specs.declared.align.Align.TheVariants.{Columns, Auto, Cells}
+use Rattle.tl_sides.specs.declared.side.Side.{Side}
 use Rattle.tl_sides.specs.declared.side.Side.TheVariants.{Left, Right, Center}
 use Rattle.tl_table.specs.declared.cell.Content.{Content, roll-Content, out-roll-Content}
 use Rattle.tl_table.specs.declared.cell.Content.TheOpen as parts
@@ -106,15 +108,20 @@ broken = refl
 abbrev word : List ℕ → List Content
 word text = roll-Content (parts.Para (Word text ∷ [])) ∷ []
 
--- a cell over these columns in a row
-abbrev over : Kind → ℕ → ℕ → ℕ → List Content → TableCell
-over kind left right row blocks = roll-TableCell (record {
+-- a cell over these columns in a row, which asks for this side
+abbrev asking : Option Side → Kind → ℕ → ℕ → ℕ → List Content → TableCell
+asking align kind left right row blocks = roll-TableCell (record {
   kind = kind;
   in_head = false;
   place = record { left = left; right = right; top = row; bottom = row + 1 };
   least = 0;
+  align = align;
   blocks = blocks;
 })
+
+-- one that asks for none
+abbrev over : Kind → ℕ → ℕ → ℕ → List Content → TableCell
+over = asking None
 
 abbrev h : ℕ → ℕ → List ℕ → TableCell
 h column row text = over kinds.Head column (column + 1) row (word text)
@@ -151,6 +158,26 @@ past_the_list = refl
 
 no_list : sides_of (Columns []) fares ≡ Left ∷ Left ∷ Left ∷ Left ∷ Left ∷ Left ∷ Left ∷ Left ∷ []
 no_list = refl
+
+-- no cell asks for a side: as by its numbers
+no_cell_asks : sides_of Cells fares ≡ sides_of Auto fares
+no_cell_asks = refl
+
+--   row 0  | To   | Fare |   the first asks for the middle
+--   row 1  | A    | 1    |   the second asks for the left
+--   row 2  | both        |   asks for the right
+--   row 3  | B    | 2    |
+abbrev asked : OpenTable
+asked = of_cells 2 4 (asking (Some Center) kinds.Head 0 1 0 (word (codes "To")) ∷ h 1 0 (codes "Fare")
+    ∷ d 0 1 (codes "A") ∷ asking (Some Left) kinds.Plain 1 2 1 (word (codes "1"))
+    ∷ asking (Some Right) kinds.Plain 0 2 2 (word (codes "both")) ∷ d 0 3 (codes "B") ∷ d 1 3 (codes "2") ∷ [])
+
+by_cells : sides_of Cells asked ≡ Center ∷ Right ∷ Left ∷ Left ∷ Right ∷ Left ∷ Right ∷ []
+by_cells = simp out-roll-Content
+
+-- otherwise what a cell asks for does not count
+not_asked : sides_of Auto asked ≡ Left ∷ Right ∷ Left ∷ Right ∷ Left ∷ Left ∷ Right ∷ []
+not_asked = simp out-roll-Content
 
 --   row 0  | 7 |   a caption over one column
 --   row 1  | 1 |

@@ -1,6 +1,6 @@
 -- What is kept of each column while the cells are looked at, and the sides that it comes to.
 use Rattle.std.proofs.Common.{◌≡◌, ◌∙◌, ℕ, zero, suc, ◌<◌, Bool, true, false, not, ◌&&◌, ◌||◌, List, [], ◌∷◌, length, map, set}
-use Rattle.std.proofs.Common.{get_or, replicate, inl, inr, refl, sym, ap, ap₂, subst, arith}
+use Rattle.std.proofs.Common.{get_or, replicate, inl, inr, refl, sym, ap, ap₂, subst, arith, None, unwrap_or}
 use Rattle.std.specs.Bool.{if◌then◌else◌}
 use Rattle.std.specs.List.{All, list_all, list_any}
 use Rattle.std.proofs.Math.ListN.{get_or-map}
@@ -8,7 +8,7 @@ use Rattle.std.proofs.lemmas.Bool.{and_left, and_right, cases_eq, ne_eqb}
 use Rattle.std.proofs.lemmas.List.{get_or-set_same, get_or-set_other, get_or-replicate, length-map, length-replicate, length-set}
 use Rattle.tl_base.specs.declared.limits.TheConstants.{MAX_COLUMNS}
 use Rattle.tl_grid.specs.Dropping.{IsPlaced}
-use Rattle.tl_sides.specs.declared.align.Align.TheVariants.{Auto}
+use Rattle.tl_sides.specs.declared.align.Align.{Align}
 use Rattle.tl_sides.specs.declared.side.Side.{Side}
 use Rattle.tl_sides.specs.declared.side.Side.TheVariants.{Left, Right}
 use Rattle.tl_table.specs.declared.cell.Table.{Table, out-Table}
@@ -18,8 +18,8 @@ use Rattle.tl_table.specs.Sound.{IsSound, IsSoundWithin}
 use Rattle.tl_table.specs.Tables.{OpenCell, OpenTable, place_of}
 use Rattle.tl_align.specs.declared.columns.Tally.{Tally}
 use Rattle.tl_align.specs.declared.columns.Tally.TheVariants.{Blank, Numbers, Other}
-use Rattle.tl_align.specs.Sides.{are_number, column_side, has_text, is_single, side_of, sides_of, tells}
-use Rattle.tl_align.specs.inner.Tallies.{AreTallies, listed_side, side, tally_from, tally_of, with}
+use Rattle.tl_align.specs.Sides.{are_number, column_side, has_text, is_single, numbers_side, own_side, side_of, sides_of, tells}
+use Rattle.tl_align.specs.inner.Tallies.{AreTallies, given_side, side, tally_from, tally_of, with}
 
 -- ---- cells of a sound table
 
@@ -156,14 +156,14 @@ side_through head_end column (cell ∷ cells) tally =
     (λ t. tally_from head_end column t cells) (side_through head_end column cells)
 
 -- the tally of a column of a table says its side
-pub side-tally_of : (table : OpenTable) (column : ℕ) → side (tally_of table column) ≡ column_side Auto table column
+pub side-tally_of : (table : OpenTable) (column : ℕ) → side (tally_of table column) ≡ numbers_side table column
 side-tally_of table column =
     let cells : List OpenCell = map out-TableCell table.cells in
     side_through (head_end_of cells table.rows) column cells Blank
 
 -- the tallies of all columns say their sides
 pub sides-tallies : (table : OpenTable) (tallies : List Tally) → AreTallies table tallies → (column : ℕ) → column < MAX_COLUMNS
-    → get_or (map side tallies) column Left ≡ column_side Auto table column
+    → get_or (map side tallies) column Left ≡ numbers_side table column
 sides-tallies table tallies are column below =
     get_or-map side tallies column Blank ∙ ap side (are.1 column below) ∙ side-tally_of table column
 
@@ -176,12 +176,14 @@ same_maps f g (cell ∷ cells) agree =
     ap₂ (λ first others. first ∷ others) (agree 0 cell (omega arith))
     (same_maps f g cells (λ k other below. agree (suc k) other (omega arith)))
 
--- a list of the sides of all columns gives the sides of all cells
-pub sides_by_list : (table : OpenTable) (columns : List Side) → All IsWithin table.cells
-    → ((column : ℕ) → column < MAX_COLUMNS → get_or columns column Left ≡ column_side Auto table column)
-    → map (λ cell. listed_side columns (out-TableCell cell)) table.cells ≡ sides_of Auto table
-sides_by_list table columns within sides =
-    same_maps (λ cell. listed_side columns (out-TableCell cell)) (λ cell. side_of Auto table (out-TableCell cell)) table.cells
+-- a list of the sides of all columns gives the sides of all cells, which are asked for their own or not
+pub sides_by_list : (align : Align) (asked : Bool) (table : OpenTable) (columns : List Side)
+    → ((cell : OpenCell) → own_side align cell ≡ (if asked then cell.align else None)) → All IsWithin table.cells
+    → ((column : ℕ) → column < MAX_COLUMNS → get_or columns column Left ≡ column_side align table column)
+    → map (λ cell. given_side asked columns (out-TableCell cell)) table.cells ≡ sides_of align table
+sides_by_list align asked table columns own within sides =
+    same_maps (λ cell. given_side asked columns (out-TableCell cell)) (λ cell. side_of align table (out-TableCell cell)) table.cells
     (λ k cell below.
     let here : OpenCell = out-TableCell (get_or table.cells k cell) in
-    ap (λ told. if is_single here then told else Left) (sides here.place.left (within k cell below)))
+    ap₂ (λ asks listed. unwrap_or asks (if is_single here then listed else Left)) (sym (own here))
+    (sides here.place.left (within k cell below)))

@@ -4,11 +4,13 @@
 --   | To |  Fare |  l   r      a header cell stands as its column does
 --   | A  |  5.50 |  l   r      by `Auto` a column whose cells with text below the head are all numbers
 --   | all of it  |  l          a cell over two columns stays left
+--
+-- By `Cells` each cell that asks for a side stands there, and all others as by `Auto`.
 use Rattle.std.specs.Prelude.{ℕ, ◌+◌, ◌==◌, Bool, false, not, ◌&&◌, ◌||◌, nat_le, nat_lt, if◌then◌else◌, List, [], ◌∷◌, length, map}
-use Rattle.std.specs.Prelude.{slice_index_or}
+use Rattle.std.specs.Prelude.{slice_index_or, Option, None, unwrap_or}
 use Rattle.std.specs.List.{list_all, list_any}
 use Rattle.tl_sides.specs.declared.align.Align.{Align}
-use Rattle.tl_sides.specs.declared.align.Align.TheVariants.{Columns, Auto}
+use Rattle.tl_sides.specs.declared.align.Align.TheVariants.{Columns, Auto, Cells}
 use Rattle.tl_sides.specs.declared.side.Side.{Side}
 use Rattle.tl_sides.specs.declared.side.Side.TheVariants.{Left, Right}
 use Rattle.tl_table.specs.declared.cell.Content.{Content, out-Content}
@@ -59,14 +61,25 @@ is_of_numbers table column =
 
 -- ---- sides
 
+-- the side of a column by what is in it
+abbrev pub numbers_side : OpenTable → ℕ → Side
+numbers_side table column = if is_of_numbers table column then Right else Left
+
 -- on which side the cells of a column stand: as the list says, and left past its end, or by what is in the column
 abbrev pub column_side : Align → OpenTable → ℕ → Side
 column_side (Columns sides) table column = slice_index_or sides column Left
-column_side Auto table column = if is_of_numbers table column then Right else Left
+column_side Auto table column = numbers_side table column
+column_side Cells table column = numbers_side table column
+
+-- the side that a cell asks for, where it is asked
+abbrev pub own_side : Align → OpenCell → Option Side
+own_side Cells cell = cell.align
+own_side _ cell = None
 
 -- on which side the lines of a cell stand
 abbrev pub side_of : Align → OpenTable → OpenCell → Side
-side_of align table cell = if is_single cell then column_side align table cell.place.left else Left
+side_of align table cell =
+    unwrap_or (own_side align cell) (if is_single cell then column_side align table cell.place.left else Left)
 
 -- one side for each cell, in the order of the cells
 abbrev pub sides_of : Align → OpenTable → List Side

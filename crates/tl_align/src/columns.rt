@@ -2,7 +2,6 @@
 
 ghost use Rattle.std.specs.Prelude.{◌≡◌, ◌<◌, ℕ, slice_index_or};
 ghost use Rattle.tl_base.specs.declared.limits.TheConstants.{MAX_COLUMNS};
-ghost use Rattle.tl_sides.specs.declared.align.Align.TheVariants.{Auto};
 ghost use Rattle.tl_sides.specs.declared.side.Side.TheVariants.{Left};
 ghost use Rattle.tl_table.specs.declared.cell.Table.{out-Table};
 ghost use Rattle.tl_table.specs.declared.cell.TableCell.{out-TableCell};
@@ -93,7 +92,7 @@ fn tallies(table: &Table) -> [Tally; MAX_COLUMNS]
 /// The side of each column: the right for a column of numbers, and else the left.
 pub(crate) fn sides_by_numbers(table: &Table) -> Sides
     requires { IsSound table.now }
-    ensures { (column : ℕ) → column < MAX_COLUMNS → slice_index_or result column Left ≡ spec.column_side Auto (out-Table table.now) column }
+    ensures { (column : ℕ) → column < MAX_COLUMNS → slice_index_or result column Left ≡ spec.numbers_side (out-Table table.now) column }
 {
     let mut sides = Sides::none();
     let tallies = tallies(table);

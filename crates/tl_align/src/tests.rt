@@ -74,6 +74,13 @@ fn lists(rt: &impl Abort, alloc: Global, file: &str, want: &str) -> Result<(), F
     Ok(())
 }
 
+/// Fails unless these are the sides of the file's cells where each stands at the side that it asks for.
+fn asks(rt: &impl Abort, alloc: Global, file: &str, want: &str) -> Result<(), Fail> {
+    let found = letters(alloc, file, Breaking::Words, Align::Cells)?;
+    assert_eq!(rt; found.as_str(), want);
+    Ok(())
+}
+
 #[test]
 fn a_column_of_numbers_stands_right_with_its_head(rt: HostRuntime) -> Result<(), Fail> {
     let alloc = rt.alloc();
@@ -113,6 +120,33 @@ fn cells_over_two_columns_and_captions_stay_left(rt: HostRuntime) -> Result<(), 
     lists(&rt, alloc, file, "llrcl")?;
     finds(&rt, alloc, "<table><caption>7<tr><td>1</table>", "lr")?;
     lists(&rt, alloc, "<table><caption>7<tr><td>x</table>", "lr")
+}
+
+#[test]
+fn a_cell_stands_at_the_side_that_it_asks_for(rt: HostRuntime) -> Result<(), Fail> {
+    let alloc = rt.alloc();
+    let file =
+        "<table><tr><th align=center>a<th>b<tr><td ALIGN=Right>x<td align=left>2<tr><td>y<td>3</table>";
+    asks(&rt, alloc, file, "crrllr")?;
+    finds(&rt, alloc, file, "lrlrlr")?;
+    lists(&rt, alloc, file, "rcrcrc")
+}
+
+#[test]
+fn a_cell_over_two_columns_may_ask_for_a_side(rt: HostRuntime) -> Result<(), Fail> {
+    let alloc = rt.alloc();
+    let file =
+        "<table><caption align=right>7<tr><td colspan=2 align=right>x<tr align=right><td>1<td>b</table>";
+    asks(&rt, alloc, file, "lrrl")?;
+    finds(&rt, alloc, file, "llrl")
+}
+
+#[test]
+fn an_unknown_side_and_a_later_one_do_not_count(rt: HostRuntime) -> Result<(), Fail> {
+    let alloc = rt.alloc();
+    let file =
+        "<table><tr><td align=justify>x<td align=middle align=right>y<td align=\" right\">z<td align>1</table>";
+    asks(&rt, alloc, file, "lllr")
 }
 
 #[test]

@@ -7,7 +7,7 @@ use Rattle.std.proofs.lemmas.List.Concat.{flat_map-cons, flat_map-append}
 use Rattle.tl_base.specs.declared.limits.TheConstants.{MAX_COLUMNS}
 use Rattle.tl_base.proofs.Members.{first-same, rest-same}
 use Rattle.tl_sides.specs.declared.align.Align.{Align}
-use Rattle.tl_sides.specs.declared.align.Align.TheVariants.{Columns, Auto}
+use Rattle.tl_sides.specs.declared.align.Align.TheVariants.{Columns, Auto, Cells}
 use Rattle.tl_sides.specs.declared.side.Side.{Side}
 use Rattle.tl_sides.specs.declared.side.Side.TheVariants.{Left, Right, Center}
 use Rattle.tl_command.specs.Options.{IsAlign, align_word, comma_letters, side_letter}
@@ -49,10 +49,19 @@ letters_full (side ∷ sides) some =
     ap (λ (bs : List ℕ). 44 ∷ drop 1 bs) (letters_cons side sides) ∙ sym (letters_cons side sides)
 
 -- the word of sides is none of a rule
-no_rule : (sides : List Side) → 1 ≤ length sides → align_word (Columns sides) ≢ codes "auto"
-no_rule [] some e = omega (arith, some)
-no_rule (side ∷ sides) some e =
+no_auto : (sides : List Side) → 1 ≤ length sides → align_word (Columns sides) ≢ codes "auto"
+no_auto [] some e = omega (arith, some)
+no_auto (side ∷ sides) some e =
     letter_apart side (first-same _ _ _ _ (sym (ap (drop 1) (letters_cons side sides)) ∙ e))
+
+no_cells : (sides : List Side) → 1 ≤ length sides → align_word (Columns sides) ≢ codes "cells"
+no_cells [] some e = omega (arith, some)
+no_cells (side ∷ []) some e = omega (arith, ap length (sym (ap (drop 1) (letters_cons side [])) ∙ e))
+no_cells (side ∷ next ∷ sides) some e =
+    let all : side_letter side ∷ 44 ∷ side_letter next ∷ comma_letters sides ≡ codes "cells" =
+    sym (ap (drop 1) (letters_cons side (next ∷ sides)) ∙ ap (λ (rest : List ℕ). side_letter side ∷ rest) (letters_cons next sides)) ∙ e in
+    let second : 44 ≡ 0x65 = first-same _ _ _ _ (rest-same _ _ _ _ all) in
+    omega (arith, second)
 
 columns_once : (one other : List Side) → 1 ≤ length one → 1 ≤ length other →
     align_word (Columns one) ≡ align_word (Columns other) → one ≡ other
@@ -67,9 +76,14 @@ columns_once one other some many same =
 -- an argument asks for sides in at most one way
 pub align_once : (one other : Align) → IsAlign one → IsAlign other → align_word one ≡ align_word other → one ≡ other
 align_once (Columns one) (Columns other) first second same = ap Columns (columns_once one other first.0 second.0 same)
-align_once (Columns one) Auto first second same = absurd (no_rule one first.0 same)
-align_once Auto (Columns other) first second same = absurd (no_rule other second.0 (sym same))
+align_once (Columns one) Auto first second same = absurd (no_auto one first.0 same)
+align_once (Columns one) Cells first second same = absurd (no_cells one first.0 same)
+align_once Auto (Columns other) first second same = absurd (no_auto other second.0 (sym same))
 align_once Auto Auto first second same = refl
+align_once Auto Cells first second same = absurd (omega (arith, ap length same))
+align_once Cells (Columns other) first second same = absurd (no_cells other second.0 (sym same))
+align_once Cells Auto first second same = absurd (omega (arith, ap length same))
+align_once Cells Cells first second same = refl
 
 -- ---- reading
 

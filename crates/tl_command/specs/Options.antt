@@ -1,6 +1,6 @@
 -- The options of a command: `--style plain|compact|rule|apart|frame|grid|box`, `--break words|any|fit|N`, `--budget N`,
--- `--solver plain|best|learn|rounds`, `--workers K`, `--csv`, `--head`, `--least LIST`, `--align LIST|auto`, `--trim` and
--- `--html`, in any order, each at most once, its value as the next argument.
+-- `--solver plain|best|learn|rounds`, `--workers K`, `--csv`, `--head`, `--least LIST`, `--align LIST|auto|cells`, `--trim`
+-- and `--html`, in any order, each at most once, its value as the next argument.
 use Rattle.std.specs.Prelude.{◌≡◌, ◌≢◌, ◌↔◌, ℕ, ◌≤◌, Bool, true, false, List, [], ◌∷◌, ◌++◌, length, drop, Some, IsTrue, Contains}
 use Rattle.std.specs.Prelude.{codes, decimal}
 use Rattle.std.specs.List.{All, AllPairs, flat_map}
@@ -56,10 +56,12 @@ side_letter sides.Center = 0x63
 abbrev pub comma_letters : List Side → List ℕ
 comma_letters list = flat_map (λ side. 0x2C ∷ side_letter side ∷ []) list
 
--- how it is spelled where lines stand: by the letters of the columns, with a comma between each two, or by what stands in them
+-- how it is spelled where lines stand: by the letters of the columns, with a comma between each two, by what stands in the
+-- columns, or by what the cells ask for besides
 abbrev pub align_word : Align → List ℕ
 align_word (aligns.Columns list) = drop 1 (comma_letters list)
 align_word aligns.Auto = codes "auto"
+align_word aligns.Cells = codes "cells"
 
 -- the argument that names an option
 abbrev pub name_of : Choice → List ℕ
@@ -114,10 +116,11 @@ pub record AreFloors (floors : List ℕ) : Type 0 where
   pub few : length floors ≤ MAX_COLUMNS
   pub narrow : All (λ floor. floor ≤ MAX_PAGE_WIDTH) floors
 
--- some sides, for no more columns than a table may have; or what stands in the columns decides
+-- some sides, for no more columns than a table may have; or what stands in the columns and the cells decide
 abbrev pub IsAlign : Align → Type 0
 IsAlign (aligns.Columns list) = (1 ≤ length list) × (length list ≤ MAX_COLUMNS)
 IsAlign aligns.Auto = Unit {0}
+IsAlign aligns.Cells = Unit {0}
 
 -- the value is within its limits
 abbrev pub IsInRange : Choice → Type 0

@@ -55,7 +55,7 @@ pub enum Choice {
     /// `--least LIST`, with LIST one number or more, and a comma between each two.
     Least(Floors),
     /// `--align LIST`, with LIST one of the letters `l`, `r` and `c` or more, and a comma between each two;
-    /// or `--align auto`.
+    /// or `--align auto` or `--align cells`.
     Align(Align),
     /// `--trim`.
     Trim,

@@ -96,6 +96,7 @@ pub(crate) fn align_named(value: &str) -> Option<Choice>
 {
     match value {
         "auto" => Some(Choice::Align(Align::Auto)),
+        "cells" => Some(Choice::Align(Align::Cells)),
         _ => {
             let sides = sides_listed(value)?;
             Some(Choice::Align(Align::Columns(sides)))

@@ -55,6 +55,7 @@ const ASKS: &[(&str, &str)] = &[
         "narrow 2 t p --align auto --trim",
         "narrow 2 t p : align=auto trim",
     ),
+    ("lay 7 t p --align cells", "lay 7 t p : align=cells"),
     ("tidy 2 t p --html --align r", "tidy 2 t p : align=r html"),
     (
         "lay 7 t p c --html --style grid --trim",
@@ -310,6 +311,8 @@ const VALUES: &[&str] = &[
     "lay 7 t p --align left",
     "lay 7 t p --align auto,l",
     "lay 7 t p --align Auto",
+    "lay 7 t p --align cell",
+    "lay 7 t p --align cells,l",
     "lay 7 t p --align l --align r",
     "lay 7 t p --align l,r,c,l,r,c,l,r,c,l,r,c,l,r,c,l,r,c,l,r,c,l,r,c,l,r,c,l,r,c,l,r,c,l,r,c,l,r,c,l,r,c,l,r,c,l,r,c,l,r,c,l,r,c,l,r,c,l,r,c,l",
     "lay 7 t p --trimmed",
@@ -490,6 +493,7 @@ fn push_align(alloc: Global, text: &mut String, align: &Option<Align>) -> Result
     let sides = match align {
         None => return Ok(()),
         Some(Align::Auto) => return push_word(alloc, text, "align", Some("auto")),
+        Some(Align::Cells) => return push_word(alloc, text, "align", Some("cells")),
         Some(Align::Columns(sides)) => sides,
     };
     for (column, side) in sides.as_slice().iter().enumerate() {

@@ -2,8 +2,8 @@
 
 use crate::side::Sides;
 
-/// On which side the lines of the cells stand. Only cells of one column are asked: a cell over several
-/// columns and a caption stay left, and a header cell stands as its column does.
+/// On which side the lines of the cells stand. A cell of one column stands as its column does, a header
+/// cell too; a cell over several columns and a caption stay left.
 #[derive(Clone, Copy)]
 pub enum Align {
     /// A side for each of the first columns, and the left for all further ones. The same list holds for
@@ -14,4 +14,7 @@ pub enum Align {
     /// one of `-`, `+`, `$`, `¢`, `£`, `¥` and `€`, then digits with single separators `.`, `,`, `'` or
     /// `_` between two of them, then at most a `%` or an exponent.
     Auto,
+    /// As [`Align::Auto`], but a cell that asks for a side by its attribute `align` stands there, also where
+    /// it is over several columns.
+    Cells,
 }

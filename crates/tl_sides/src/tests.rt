@@ -24,4 +24,5 @@ fn sides_may_go_to_other_threads() {
     share(&Sides::none());
     share(&Align::Columns(Sides::none()));
     share(&Align::Auto);
+    share(&Align::Cells);
 }

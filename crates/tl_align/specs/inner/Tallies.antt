@@ -1,5 +1,5 @@
 -- No public clause cites this file: it says what is kept of each column while the cells are looked at, one after the other.
-use Rattle.std.specs.Prelude.{◌≡◌, ℕ, ◌<◌, Bool, true, if◌then◌else◌, List, [], ◌∷◌, map, length, slice_index_or}
+use Rattle.std.specs.Prelude.{◌≡◌, ℕ, ◌<◌, Bool, true, if◌then◌else◌, List, [], ◌∷◌, map, length, slice_index_or, None, unwrap_or}
 use Rattle.tl_base.specs.declared.limits.TheConstants.{MAX_COLUMNS}
 use Rattle.tl_sides.specs.declared.side.Side.{Side}
 use Rattle.tl_sides.specs.declared.side.Side.TheVariants.{Left, Right}
@@ -44,3 +44,7 @@ AreTallies table tallies =
 -- the side of a cell by those of the first columns
 abbrev pub listed_side : List Side → OpenCell → Side
 listed_side columns cell = if is_single cell then slice_index_or columns cell.place.left Left else Left
+
+-- the side that a cell asks for, if it is asked and asks for one, and else that by those of the first columns
+abbrev pub given_side : Bool → List Side → OpenCell → Side
+given_side asked columns cell = unwrap_or (if asked then cell.align else None) (listed_side columns cell)

@@ -433,6 +433,14 @@ const SIDED: &[Case<'static>] = &[
         message: "lowest height 2 width 4\n",
     },
     Case {
+        line: "lay 80 t.html p.txt --style compact --align cells",
+        file: "<table><tr><th align=center>a<th>bbb<tr><td>long<td align=Left>1<tr><td colspan=2 align=right>cc</table>",
+        status: 0,
+        page: Some(" a   bbb\nlong 1  \n      cc\n"),
+        certificate: None,
+        message: "lowest height 3 width 8\n",
+    },
+    Case {
         line: "lay 80 t.html p.txt --csv --style compact --align c",
         file: "abc,d\nx,e\nyz,f\n",
         status: 0,
