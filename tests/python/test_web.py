@@ -107,6 +107,26 @@ class Tables(unittest.TestCase):
             with self.subTest(rows=rows):
                 self.assertEqual(page(f"<table>{rows}</table>"), wanted)
 
+    def test_sides(self):
+        for attributes, wanted in (
+            ("align=right", " align=right"), ("ALIGN=Center", " align=center"), ("align=middle", " align=center"), ("align=left align=right", " align=left"),
+            # White space is not left out, and what is no side is as if it were not there.
+            ("align=' right'", ""), ("align='right '", ""), ("align=justify", ""), ("align", ""), ("valign=top", ""),
+            # A style counts more than the attribute, and the last of two styles.
+            ("style='text-align: right' align=left", " align=right"), ("style='color: red;TEXT-ALIGN : Center ;'", " align=center"),
+            ("style='text-align:left; text-align:right !important'", " align=right"), ("style='text-align: start' align=left", " align=left"),
+            ("style='text-align: right x'", ""), ("style='-x-text-align: right'", ""), ("style='text-align-last: right'", ""),
+            ("rowspan=2 colspan=2 data-min=5 align=right", " colspan=2 align=right"),
+        ):
+            for name in ("td", "th"):
+                with self.subTest(name=name, attributes=attributes):
+                    self.assertIn(f"<tr><{name}{wanted}><p>a</p>", subset.table_html(formed(f"<table><tr><{name} {attributes}>a</table>")))
+        # Cells alone ask for a side, each for its own.
+        others = "<table align=right><caption align=right>a<tbody align=right><tr align=right><td>"
+        html = subset.table_html(formed(f"{others}<p align=right>b</p><table align=right><tr><td align=center>c<td>d</table>"))
+        self.assertEqual(html.count("align"), 1)
+        self.assertIn("<td><p>b</p><table>\n<tbody>\n<tr><td align=center><p>c</p></td><td><p>d</p></td></tr>", html)
+
     def test_size(self):
         table = forming.form(table_of("<table><tr><td rowspan=2 colspan=2>A<td>B<tr><td>C<td>D</table>"))
         self.assertEqual((len(table.rows), table.columns), (2, 4))

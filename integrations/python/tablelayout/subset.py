@@ -1,6 +1,7 @@
 """Tables of pages as files of the subset of HTML that the program reads (docs/READING.md)."""
 from __future__ import annotations
 
+import re
 from typing import Dict, List, NamedTuple, Optional, Sequence, Tuple
 from xml.etree.ElementTree import Element
 
@@ -30,6 +31,17 @@ def escaped(text: str) -> str:
 def paragraph_html(lines: Tuple[str, ...]) -> str:
     """A paragraph of these lines."""
     return "<p>" + "<br>".join(escaped(line) for line in lines) + "</p>"
+
+
+# The sides that the program knows, by the words for them in pages, and a style that says one.
+_SIDES = {"left": "left", "right": "right", "center": "center", "middle": "center"}
+_TEXT_ALIGN = re.compile(r"(?:^|;)\s*text-align\s*:\s*(left|right|center)\s*(?:!\s*important\s*)?(?=;|$)", re.I)
+
+
+def side_of(cell: Element) -> Optional[str]:
+    """The side that a cell asks for, by its ``style``, or else by its ``align``; None if it asks for none."""
+    styles: List[str] = _TEXT_ALIGN.findall(cell.get("style", ""))
+    return _SIDES.get((styles[-1] if styles else cell.get("align", "")).lower())
 
 
 # The least widths of cells, in columns of text.
@@ -69,9 +81,9 @@ class _Writer:
     def _cell(self, cell: Cell, depth: int) -> str:
         name = "th" if cell.is_header else "td"
         spans = "".join(f" {attribute}={count}" for attribute, count in (("colspan", cell.columns), ("rowspan", cell.rows)) if count > 1)
-        floor = self._floors.get(cell.element, 0)
-        spans += f" data-min={floor}" if floor else ""
-        return f"<{name}{spans}>{self.flow(blocks_of(cell.element), depth)}</{name}>"
+        floor, side = self._floors.get(cell.element, 0), side_of(cell.element)
+        more = (f" data-min={floor}" if floor else "") + (f" align={side}" if side else "")
+        return f"<{name}{spans}{more}>{self.flow(blocks_of(cell.element), depth)}</{name}>"
 
     def table(self, table: Table, depth: int) -> str:
         """A table that is inside so many others."""
