@@ -110,8 +110,20 @@ class Answers(unittest.TestCase):
         # The narrowest page has "lamp oil" on two lines, the lowest on one.
         for lay, wanted in ((self.layouter.narrow, "rope    12"), (self.layouter.tidy, "    rope    12")):
             self.assertEqual(lay(rows, head=True, align="r,r").text.split("\n")[1], wanted)
-        with self.assertRaises(tablelayout.BadRequest):
-            self.layouter.lay(rows, head=True, align="x")
+        for align in ("x", "Cells", "cells,l"):
+            with self.assertRaises(tablelayout.BadRequest):
+                self.layouter.lay(rows, head=True, align=align)
+
+    def test_sides_of_cells(self):
+        html = "<table><tr><td align=RIGHT>a<td>10<tr><td>word<td align=left>9</table>"
+        for align, wanted in (("cells", "   a  10\nword  9 \n"), ("auto", "a     10\nword   9\n"), (None, "a     10\nword  9 \n")):
+            page = self.layouter.lay(html=html, width=72, align=align)
+            self.assertEqual((page.text, page.width, page.is_lowest), (wanted, 8, True))
+            self.assertEqual(self.layouter.check(html=html, width=72, certificate=page.certificate).claim, "lowest")
+            self.assertNotIn("align", page.html)
+        # Rows have no attributes.
+        rows = [["a", "10"], ["word", "9"]]
+        self.assertEqual(self.layouter.lay(rows, align="cells").text, self.layouter.lay(rows, align="auto").text)
 
     def test_fit(self):
         # Words of 3 columns break, and those of 2 stay whole: columns of 2 and 2, with 2 between them.

@@ -102,8 +102,38 @@ class Show(unittest.TestCase):
         self.assertEqual(show("--csv", "--head", data=b"a,b\nx,10\ny,9\nz,-\n").text, "a b \n- --\nx 10\ny 9 \nz - \n")
         # Values of records stand at the left, whatever the columns of the table are.
         self.assertEqual(show("--csv", "--head", "--records", data=b"a,bb\n10,9\n").text, "[ 1 ]\na  10\nbb 9 \n")
-        for wrong in ("x", "l,", "lr", "auto,l", ",".join("l" * 61)):
+        for wrong in ("x", "l,", "lr", "auto,l", "cell", "Cells", "cells,l", ",".join("l" * 61)):
             self.assertEqual(show("--align", wrong, data=SHIPS).status, 2)
+
+    def test_sides_of_cells(self):
+        # The second column is one of numbers, and white space around a side makes it none.
+        rows = ("<tr><td {right}>ab<td>10<tr><td>word<td {left}>9<tr><td colspan=2 {center}>x<tr><td align=' right'>y<td>100</table>")
+        of_cells, of_columns = "  ab  10\nword 9  \n   x    \ny    100\n", "ab    10\nword   9\nx       \ny    100\n"
+        data = f"<table>{rows.format(right='align=right', left='ALIGN=Left', center='align=center align=right')}".encode()
+        for more, wanted in ((["--align", "cells"], of_cells), ([], of_columns), (["--align", "auto"], of_columns)):
+            for strict in ([], ["--strict"]):
+                with self.subTest(more=more, strict=strict):
+                    self.assertEqual(show(*more, *strict, data=data).text, wanted)
+        # A CSV file asks for nothing, and the values of records stand at the left.
+        self.assertEqual(show("--csv", "--head", "--align", "cells", data=b"a,b\nx,10\ny,9\n").text, "a  b\n- --\nx 10\ny  9\n")
+        ran = show("--csv", "--head", "--records", "--style", "compact", "--align", "cells", data=b"a,bb\n10,9\n")
+        self.assertEqual(ran.text, "[ 1 ]\na  10\nbb 9 \n")
+
+    @common.needs_parser
+    def test_sides_of_cells_of_any_page(self):
+        data = (b"<p>text<table><tr><td align=right>ab<td>10<tr><td>word<td style='text-align: left'>9"
+                b"<tr><td colspan=2 align=CENTER>x<tr><td align=justify>y<td>100</table>")
+        for more, wanted in ((["--align", "cells"], "  ab  10\nword 9  \n   x    \ny    100\n"), ([], "ab    10\nword   9\nx       \ny    100\n")):
+            with self.subTest(more=more):
+                self.assertEqual(show(*more, data=data).text, wanted)
+
+    @common.needs_parser
+    @common.needs_pandoc
+    def test_sides_of_cells_of_a_document(self):
+        path = self.file("a.md", b"| a | b |\n|--:|:-:|\n| x | yyy |\n| zz | w |\n")
+        for more, wanted in ((["--align", "cells"], " a  b \n-- ---\n x yyy\nzz  w \n"), ([], "a  b  \n-- ---\nx  yyy\nzz w  \n")):
+            with self.subTest(more=more):
+                self.assertEqual(show(path, *more).text, wanted)
 
     def test_spaces_at_the_ends_of_lines(self):
         for more, wanted in (([], "aaa cc dd\nbbb ee   \n"), (["--trim"], "aaa cc dd\nbbb ee\n")):

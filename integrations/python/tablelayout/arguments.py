@@ -80,10 +80,11 @@ def number_up_to(most: int, least: int = 0) -> Callable[[str], int]:
 
 
 def alignment(text: str) -> str:
-    """The side of each column, as l,r,c, or auto. Raises ArgumentTypeError."""
+    """The side of each column, as l,r,c, or auto, or cells. Raises ArgumentTypeError."""
     sides = text.split(",")
-    if text != "auto" and (len(sides) > _MOST_WIDTHS or not all(side in ("l", "r", "c") for side in sides)):
-        raise argparse.ArgumentTypeError(f"{text} is no alignment: auto, or letters of l, r, c for up to {_MOST_WIDTHS} columns, as l,r")
+    if text not in ("auto", "cells") and (len(sides) > _MOST_WIDTHS or not all(side in ("l", "r", "c") for side in sides)):
+        raise argparse.ArgumentTypeError(
+            f"{text} is no alignment: auto, cells, or letters of l, r, c for up to {_MOST_WIDTHS} columns, as l,r")
     return text
 
 

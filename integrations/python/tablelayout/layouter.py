@@ -145,8 +145,9 @@ class Layouter:
 
         ``style``, ``breaking``, ``budget`` (in cuts), ``solver``, ``workers`` and ``align`` are the command's options
         ``--style``, ``--break``, ``--budget``, ``--solver``, ``--workers`` and ``--align``; None leaves them to the program.
-        With ``breaking="fit"`` as few words as can be break, and the page's ``breaking`` says which. ``more`` has the words
-        of further options.
+        With ``breaking="fit"`` as few words as can be break, and the page's ``breaking`` says which. ``align`` is a list, as
+        ``"l,r,c"``, or ``"auto"``, or ``"cells"``, with which the attribute ``align`` of a cell of ``html`` counts. ``more`` has
+        the words of further options.
 
         Raises TooNarrow, BadInput, BadCell, Overlap, LimitPassed, OutOfMemory, BadRequest or ProgramFault. That the budget
         ended the search is no error: the page fits, and ``is_lowest`` is False.

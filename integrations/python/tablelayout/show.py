@@ -62,8 +62,9 @@ def parser() -> Parser:
     it.add_argument("--budget", type=number_up_to(_MOST_BUDGET), metavar="N", help="how many cuts one search may make")
     it.add_argument("--solver", choices=_SOLVERS, metavar="SEARCH", help="which search finds the page")
     it.add_argument("--workers", type=number_up_to(_MOST_WORKERS, 1), metavar="K", help="how many workers search at one time")
-    it.add_argument("--align", default="auto", type=alignment, metavar="LIST|auto",
-                    help="the side of each column, as l,r,c, or auto (without it): columns of numbers stand at the right")
+    it.add_argument("--align", default="auto", type=alignment, metavar="LIST|auto|cells",
+                    help="the side of each column, as l,r,c, or auto (without it): columns of numbers stand at the right; "
+                         "or cells: so too, but for cells that ask for a side")
     it.add_argument("--trim", action="store_true", help="no spaces at the ends of lines")
     it.add_argument("--html", action="store_true", help="the page as HTML with its widths")
     it.add_argument("--progress", action="store_true", help="how far a search has come, not on a terminal alone")

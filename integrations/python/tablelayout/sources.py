@@ -20,7 +20,10 @@ class Source(NamedTuple):
 
 
 class Options(NamedTuple):
-    """How a table is laid out. None leaves a choice to the program; docs/COMMAND.md says what each does."""
+    """How a table is laid out. None leaves a choice to the program; docs/COMMAND.md says what each does.
+
+    ``align`` is a list of letters, as ``l,r,c``, or ``auto``, or ``cells``.
+    """
 
     style: Optional[str] = None
     breaking: Optional[str] = None
