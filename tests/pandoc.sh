@@ -47,6 +47,20 @@ with_filter "$room/made/head.md" -M tablelayout-style=apart 2>&1 | expect_text $
 printf '| a | no |\n|:-:|---:|\n| bbbb bbbb bbbb bbbb bbbb bbbb | 5 |\n' >"$room/made/sides.md"
 with_filter "$room/made/sides.md" --columns 20 2>&1 |
     expect_text $'      a        no\n-------------- --\nbbbb bbbb bbbb  5\nbbbb bbbb bbbb' "with sides"
+# A cell stands at its own side, or else at that of the column in which it begins, over several columns too. A nested table
+# has sides of its own. pandoc takes the sides of columns from the first row.
+cat >"$room/made/cells.html" <<'HTML'
+<table>
+<tr><td style="text-align: right">a</td><td>5</td></tr>
+<tr><td>bbbb</td><td style="text-align: center">c</td></tr>
+<tr><td colspan="2" style="text-align: center">d</td></tr>
+<tr><td colspan="2">e</td></tr>
+<tr><td><table><tr><td>f</td></tr><tr><td>gggg</td></tr></table></td>
+<td><table><tr><td style="text-align: right">h</td></tr><tr><td>iii</td></tr></table></td></tr>
+</table>
+HTML
+with_filter "$room/made/cells.html" 2>&1 |
+    expect_text $'   a 5\nbbbb  c\n   d\n       e\nf      h\ngggg iii' "with sides of cells"
 # What pandoc writes as low stays, unless a style is asked for.
 with_filter "$room/made/head.md" 2>&1 | expect_text $'  a   b\n  --- ---\n  c   d' "of a table that pandoc writes as low"
 with_filter "$room/made/head.md" -M tablelayout-style=rule 2>&1 | expect_text $'a b\n- -\nc d' "with a rule"

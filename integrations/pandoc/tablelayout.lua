@@ -14,7 +14,6 @@ PANDOC_VERSION:must_be_at_least("2.17")
 
 local MOST_COLUMNS = 500
 local MOST_SPAN = 1000
-local MOST_SIDES = 60
 local STATUS_LOWEST, STATUS_BOUNDED, STATUS_NARROW, STATUS_MEMORY = 0, 3, 4, 9
 local REPLACEMENT = "\u{FFFD}"
 -- A page is text where pandoc writes text itself, and a block of code where it writes markdown.
@@ -23,8 +22,8 @@ local MARKDOWN_FORMATS = { commonmark = true, commonmark_x = true, gfm = true }
 local STYLES = { "plain", "compact", "rule", "apart", "frame", "grid", "box" }
 local USUAL_STYLE = "rule"
 local BREAKS = { "words", "any", "fit" }
--- How the program spells on which side a column stands; where pandoc knows none, it is the left.
-local SIDES = { AlignLeft = "l", AlignRight = "r", AlignCenter = "c" }
+-- How a cell asks the program for a side.
+local SIDES = { AlignLeft = "left", AlignRight = "right", AlignCenter = "center" }
 
 local is_text = TEXT_FORMATS[FORMAT]
 local is_markdown = MARKDOWN_FORMATS[FORMAT] or FORMAT:match("^markdown") ~= nil
@@ -271,9 +270,15 @@ function add_flow(out, blocks)
     end_run()
 end
 
--- Adds the rows of a section, and to `begun` the columns in which a cell begins. As in pandoc's tables a cell covers
--- only places that are free, and ends with the section.
-local function add_rows(out, rows, header_columns, begun)
+-- On which side a cell stands: its own, or else that of the column in which it begins. Where pandoc knows neither, it
+-- is the left.
+local function side_of(cell, spec)
+    return SIDES[cell.alignment] or spec and SIDES[spec[1]] or "left"
+end
+
+-- Adds the rows of a section of a table of these columns. As in pandoc's tables a cell covers only places that are
+-- free, and ends with the section.
+local function add_rows(out, rows, header_columns, colspecs)
     -- For each column in how many more rows the cell above covers it.
     local covered = {}
     for number, row in ipairs(rows) do
@@ -287,9 +292,8 @@ local function add_rows(out, rows, header_columns, begun)
             while width < math.min(cell.col_span, MOST_SPAN) and (covered[column + width] or 0) == 0 do
                 width = width + 1
             end
-            begun[column] = true
-            local tag = column <= header_columns and "th" or "td"
-            out:insert(string.format("<%s colspan=%d rowspan=%d>", tag, width, height))
+            local tag, side = column <= header_columns and "th" or "td", side_of(cell, colspecs[column])
+            out:insert(string.format("<%s colspan=%d rowspan=%d align=%s>", tag, width, height, side))
             add_flow(out, cell.contents)
             out:insert("</" .. tag .. ">")
             for i = column, column + width - 1 do
@@ -304,10 +308,10 @@ local function add_rows(out, rows, header_columns, begun)
     end
 end
 
-local function add_section(out, tag, rows, header_columns, begun)
+local function add_section(out, tag, rows, header_columns, colspecs)
     if #rows > 0 then
         out:insert("<" .. tag .. ">\n")
-        add_rows(out, rows, header_columns, begun)
+        add_rows(out, rows, header_columns, colspecs)
         out:insert("</" .. tag .. ">\n")
     end
 end
@@ -319,9 +323,9 @@ local function has_text(row)
     end)
 end
 
--- Adds a table, and returns the columns in which a cell begins.
+-- Adds a table.
 function add_table(out, block)
-    local begun = {}
+    local colspecs = block.colspecs
     -- Some readers give a table without a head a row of nothing.
     local has_head = pandoc.List(block.head.rows):find_if(has_text)
     out:insert("<table>\n")
@@ -330,31 +334,13 @@ function add_table(out, block)
         add_flow(out, block.caption.long)
         out:insert("</caption>\n")
     end
-    add_section(out, "thead", has_head and block.head.rows or {}, math.huge, begun)
+    add_section(out, "thead", has_head and block.head.rows or {}, math.huge, colspecs)
     for _, body in ipairs(block.bodies) do
-        add_section(out, "tbody", body.head, math.huge, begun)
-        add_section(out, "tbody", body.body, body.row_head_columns, begun)
+        add_section(out, "tbody", body.head, math.huge, colspecs)
+        add_section(out, "tbody", body.body, body.row_head_columns, colspecs)
     end
-    add_section(out, "tfoot", block.foot.rows, 0, begun)
+    add_section(out, "tfoot", block.foot.rows, 0, colspecs)
     out:insert("</table>\n")
-    return begun
-end
-
--- On which side each column stands, as the program spells it; nothing where all stand at the left. A column in which
--- no cell begins is none to the program. Nested tables have sides of their own, which no list can say.
-local function sides_of(block, begun, out)
-    local sides, is_left, tables_begun = {}, true, 0
-    for i, spec in ipairs(block.colspecs) do
-        local side = SIDES[spec[1]] or "l"
-        if begun[i] then
-            table.insert(sides, side)
-            is_left = is_left and side == "l"
-        end
-    end
-    for _, it in ipairs(out) do
-        tables_begun = tables_begun + (it == "<table>\n" and 1 or 0)
-    end
-    return not is_left and tables_begun == 1 and #sides <= MOST_SIDES and table.concat(sides, ",") or nil
 end
 
 -- The HTML of a table that was added: texts, and places of parts.
@@ -437,9 +423,8 @@ local function lay_out(asked)
     end
     local requests = asked:map(function(it)
         local style = settings.style or USUAL_STYLE
-        local words = pandoc.List({ "lay", it.width, "--style", style, "--break", settings.breaking })
-        words:extend(it.sides and { "--align", it.sides } or {})
-        return table.concat(words, " ") .. " " .. #it.html .. "\n" .. it.html
+        local words = { "lay", it.width, "--style", style, "--break", settings.breaking, "--align", "cells", #it.html }
+        return table.concat(words, " ") .. "\n" .. it.html
     end)
     local is_done, result = pcall(pandoc.pipe, settings.program, { "batch" }, table.concat(requests))
     -- What it printed, if it ran at all.
@@ -561,7 +546,7 @@ end
 -- Asks for the page of a table. It is there once all are.
 local function ask_for(block, width)
     local it = { number = #tables + 1, width = width, out = pandoc.List({}) }
-    it.sides = sides_of(block, add_table(it.out, block), it.out)
+    add_table(it.out, block)
     tables:insert(it)
     return it
 end
