@@ -21,7 +21,7 @@ _tablelayout_values() {
     case $1 in
     --style) echo plain compact rule apart frame grid box ;;
     --break) echo words any fit ;;
-    --align) echo auto ;;
+    --align) echo auto cells ;;
     --solver) echo plain best learn rounds ;;
     esac
 }
