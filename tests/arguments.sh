@@ -39,6 +39,15 @@ is_framed in.html --budget 9 lay 10 --workers 2 in.html /dev/stdout --solver pla
 is_framed in.csv lay 10 --csv in.csv --style frame /dev/stdout
 is_framed in.csv --csv --least 2,1 lay 10 in.csv --style frame /dev/stdout
 
+# A cell stands at the side that it asks for with `--align cells` alone, wherever that stands.
+printf '<table><tr><td align=right>a<td>bb<tr><td colspan=2 align=center>c<tr><td align=none>dd<td>e</table>' >sides.html
+readonly ASKED=$' a  bb\n  c   \ndd  e \nlowest height 3 width 6\nstatus 0'
+is_said "$ASKED" in.html lay 10 sides.html - --align cells
+is_said "$ASKED" in.html --align cells lay 10 sides.html -
+is_said $'a   bb\nc     \ndd  e \nlowest height 3 width 6\nstatus 0' in.html lay 10 sides.html - --align auto
+is_refused lay 10 sides.html - --align
+is_refused lay 10 sides.html - --align cells --align cells
+
 # `-` is standard input and standard output, and `./-` a file.
 is_framed in.html lay 10 - /dev/stdout --style frame
 is_framed in.html lay 10 - - --style frame
@@ -93,7 +102,10 @@ is_told "tablelayout: option '--least' does not take '5,'" lay 10 in.html page -
 is_told "tablelayout: command 'check' does not take '--html'" check 10 in.html cert --html
 is_told "tablelayout: command 'check' does not take '--trim'" check 10 in.html cert --trim
 is_told "tablelayout: command 'check' does not take '--align'" check 10 in.html cert --align l
+is_told "tablelayout: command 'check' does not take '--align'" check 10 in.html cert --align cells
 is_told "tablelayout: option '--align' does not take 'lr'" lay 10 in.html page --align lr
+is_told "tablelayout: option '--align' does not take 'cell'" lay 10 in.html page --align cell
+is_told "tablelayout: option '--align' does not take 'Cells'" lay 10 in.html page --align Cells
 is_told "tablelayout: command 'check' does not take '--solver'" check 10 in.html cert --solver best
 is_told "tablelayout: command 'batch' takes no other words" batch 1
 is_told "tablelayout: command 'batch' takes no other words" batch --workers 4

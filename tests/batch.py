@@ -30,6 +30,9 @@ STORED = {"lay": ("page", "cert"), "narrow": ("page", "cert", "less", "spent"), 
 TABLE = b"<table><tr><td>aaa bbb<td>cc dd ee</table>"
 SMALL = b"lay 9 --style compact 42\n" + TABLE
 SMALL_ANSWER = b"0 20 0 0 0\nlowest height 2 width 9\naaa cc dd\nbbb ee   \n"
+# Its second column is one of numbers. The last cell that asks for a side asks for one that is none.
+SIDES = (b"<table><tr><td align=right>ab<td>10<tr><td>word<td ALIGN=Left>9<tr><td colspan=2 align='center' align=right>x"
+         b"<tr><td align=justify>y<td>100</table>")
 
 Option = Tuple[str, ...]
 
@@ -88,17 +91,21 @@ def run_command(request: Request, room: Path) -> Result:
 WORDS = ["a", "be", "sea", "ship", "cargo", "harbour", "日本", "é", "e\u0301", "🚢", "ß", "x" * 12]
 
 
+# What some cells ask for: sides, and what is none.
+ASKED = ("", "", "", " align=right", " ALIGN=Center", " align='left'", ' align=" right"', " align")
+
+
 def drawn_html(draw: random.Random) -> bytes:
-    """A table of few cells, some with spans, and one with a table in it."""
+    """A table of few cells, some with spans, some that ask for a side, and one with a table in it."""
     columns = draw.randint(1, 4)
     rows = []
     for _ in range(draw.randint(1, 5)):
         cells = []
         for column in range(columns):
             words = " ".join(draw.choices(WORDS, k=draw.randint(0, 5)))
-            nested = f"<table><tr><td>{words}<td>in</table>" if draw.random() < 0.05 else ""
+            nested = f"<table><tr><td>{words}<td{draw.choice(ASKED)}>in</table>" if draw.random() < 0.05 else ""
             span = " colspan=2" if column == columns - 2 and draw.random() < 0.2 else ""
-            cells.append(f"<td{span}>{words}{nested}")
+            cells.append(f"<td{span}{draw.choice(ASKED)}>{words}{nested}")
             if span:
                 break
         rows.append("<tr>" + "".join(cells))
@@ -132,7 +139,7 @@ def drawn_source(draw: random.Random) -> Tuple[bytes, List[Option]]:
 CHOICES: Tuple[Tuple[str, Tuple[str, ...]], ...] = (
     ("--style", ("plain", "compact", "rule", "apart", "frame", "grid", "box")), ("--break", ("words", "any", "fit", "0", "12")), ("--budget", ("0", "2", "50", "100000")),
     ("--solver", ("plain", "best", "learn", "rounds")), ("--workers", ("1", "2", "4")),
-    ("--align", ("l", "r,c,l", "auto")))
+    ("--align", ("l", "r,c,l", "auto", "cells")))
 
 
 def drawn_options(draw: random.Random) -> List[Option]:
@@ -313,6 +320,41 @@ class Answers(unittest.TestCase):
             self.assertEqual(run.end(), (SMALL_ANSWER + b"9 0 0 0 0\n\n" + SMALL_ANSWER, 0))
 
 
+def laid_out(options: bytes, table: bytes) -> Tuple[bytes, int]:
+    """What a run prints for a request for a page of 20 columns in style compact, and its status."""
+    return answered(b"lay 20 --style compact %b %d\n%b" % (options, len(table), table))
+
+
+class Sides(unittest.TestCase):
+    """On which side the lines of cells stand, as the cells ask for it. The pages are counted by hand."""
+
+    def test_cells(self) -> None:
+        asked = b"  ab  10\nword 9  \n   x    \ny    100\n"
+        for options, page in ((b"--align cells", asked), (b"--align cells --trim", b"  ab  10\nword 9\n   x\ny    100\n"),
+                              # Without it nothing is changed by what cells ask for.
+                              (b"--align auto", b"ab    10\nword   9\nx       \ny    100\n"),
+                              (b"--align r,l", b"  ab 10 \nword 9  \nx       \n   y 100\n"),
+                              (b"--budget 5000", b"ab   10 \nword 9  \nx       \ny    100\n")):
+            with self.subTest(options=options):
+                self.assertEqual(laid_out(options, SIDES), (Result(0, b"lowest height 4 width 8", (page,)).answer(), 0))
+
+    def test_captions_and_nested_tables(self) -> None:
+        table = (b"<table><caption align=right>Log</caption><tr><td align=right><table><tr><td align=right>a<td>1<tr><td>bb<td>20</table>"
+                 b"<tr><td align=right><p align=left>c<tr align=right><td>lots here</table>")
+        page = b"Log      \n a  1    \nbb 20    \n        c\nlots here\n"
+        self.assertEqual(laid_out(b"--align cells", table), (Result(0, b"lowest height 5 width 9", (page,)).answer(), 0))
+
+    def test_csv(self) -> None:
+        self.assertEqual(laid_out(b"--csv --align cells", b"a,10\nword,9\n"),
+                         (Result(0, b"lowest height 2 width 7", (b"a    10\nword  9\n",)).answer(), 0))
+
+    def test_what_does_not_depend_on_sides(self) -> None:
+        self.assertEqual(laid_out(b"--html --align cells", SIDES), laid_out(b"--html", SIDES))
+        self.assertNotIn(b"align", laid_out(b"--html --align cells", SIDES)[0])
+        certificates = {answer[0].split(b"\n", 6)[6] for answer in (laid_out(b"--cert", SIDES), laid_out(b"--cert --align cells", SIDES))}
+        self.assertEqual(len(certificates), 1)
+
+
 NO_REQUESTS = (
     # Words that are missing, or separated in another way.
     b"", b" ", b"lay", b"lay 9", b"lay 42", b"42", b"9 42", b"lay 9 ", b"lay  9 42", b"lay 9  42", b" lay 9 42", b"lay 9 42 ", b"lay\t9 42",
@@ -331,6 +373,7 @@ NO_REQUESTS = (
     b"lay 9 --workers 0 42", b"lay 9 --workers 17 42", b"lay 9 --csv --least 1, 42", b"lay 9 --style compact --style compact 42",
     b"lay 9 --csv --csv 42", b"lay 9 --head 42", b"lay 9 --least 1 42", b"check 9 --cert 42 0", b"check 9 --html 42 0",
     b"check 9 --trim 42 0", b"lay 9 --trim --trim 42", b"check 9 --align l 42 0", b"lay 9 --align l, 42", b"lay 9 --align auto --align l 42",
+    b"check 9 --align cells 42 0", b"lay 9 --align Cells 42", b"lay 9 --align cell 42", b"lay 9 --align cells,l 42", b"lay 9 --align cells --align cells 42",
     b"check 9 --solver best 42 0",
     # Long lines.
     b"x" * MOST_LINE, b"x" * (MOST_LINE + 1), b"lay 9 " + b"0" * MOST_LINE + b"42", b"lay " * 900, b"x" * 100_000,
