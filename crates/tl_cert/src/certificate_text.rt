@@ -16,6 +16,16 @@ use crate::reader::{Fault, Reader};
 use std::alloc::{AllocError, Global};
 use tl_base::{List, MAX_BUDGET, MAX_CERTIFICATE_BYTES, MAX_HEIGHT, MAX_PAGE_WIDTH, Style};
 
+/// The first line of a certificate.
+#[derive(Clone, Copy)]
+struct Head {
+    /// Whether a log line ends by `area`, as one does in version 2 alone.
+    has_area: bool,
+    width: u32,
+    style: Style,
+    budget: u32,
+}
+
 impl<'a> Reader<'a> {
     /// Whether the text is of version 2.
     #[tactic(auto, unfolding(crate::specs::inner::CertReading::version_at, // and how readings follow one another
@@ -135,20 +145,13 @@ impl<'a> Reader<'a> {
 
     /// What follows the claim: chains with `narrow`, and sections with the other claims.
     #[tactic(auto, unfolding(crate::specs::inner::reading::Readings::followed, crate::specs::inner::reading::Readings::give))]
-    fn proof(
-        &mut self,
-        alloc: Global,
-        has_area: bool,
-        width: u32,
-        style: Style,
-        budget: u32,
-        claim: Claim,
-    ) -> Result<Certificate, Fault>
-        ensures { Gives (λ x. x) result self.new.rest.now (read.proof_at has_area width style budget claim self.old.rest.now) }
+    fn proof(&mut self, alloc: Global, head: Head, claim: Claim) -> Result<Certificate, Fault>
+        ensures { Gives (λ x. x) result self.new.rest.now
+            (read.proof_at head.has_area head.width head.style head.budget claim self.old.rest.now) }
     {
         let (chains, sections) = match claim {
             Claim::Lowest(_) | Claim::Bounded(_, _) => {
-                let sections = self.sections(alloc, areas_of(has_area))?;
+                let sections = self.sections(alloc, areas_of(head.has_area))?;
                 (List::new(alloc), sections)
             }
             Claim::Narrow(_) => {
@@ -157,9 +160,9 @@ impl<'a> Reader<'a> {
             }
         };
         Ok(Certificate {
-            width,
-            style,
-            budget,
+            width: head.width,
+            style: head.style,
+            budget: head.budget,
             claim,
             chains,
             sections,
@@ -177,8 +180,14 @@ impl<'a> Reader<'a> {
         let width = self.field(1, MAX_PAGE_WIDTH, b' ')?;
         let style = self.style()?;
         let budget = self.field(0, MAX_BUDGET, b'\n')?;
+        let head = Head {
+            has_area,
+            width,
+            style,
+            budget,
+        };
         let claim = self.claim(has_area)?;
-        self.proof(alloc, has_area, width, style, budget, claim)
+        self.proof(alloc, head, claim)
     }
 }
 

@@ -23,6 +23,17 @@ use tl_grid::Place;
 use tl_table::{Content, Kind, TableCell, broken};
 use tl_text::{Atom, Para, words};
 
+/// How the fields of a file become cells.
+#[derive(Drop)]
+pub(crate) struct CellForm<'a> {
+    /// Whether the cells of the first row are header cells.
+    pub(crate) head: bool,
+    /// The floors of the columns, in columns of text.
+    pub(crate) least: &'a [u32],
+    /// Which words may break.
+    pub(crate) breaking: Breaking,
+}
+
 /// The words as atoms, each a unit that begins a word.
 fn atoms_of(alloc: Global, words: List<Text>) -> Result<List<Atom>, AllocError>
     ensures { IfOk result (λ atoms. atoms ≡ map Word words) }
@@ -105,22 +116,20 @@ fn cell(
     text: &str,
     row: u32,
     column: u32,
-    head: bool,
-    least: &[u32],
-    breaking: Breaking,
+    form: &CellForm<'_>,
 ) -> Result<TableCell, AllocError>
     requires small { length text.now ≤ MAX_FILE_BYTES }
     requires rows { row < MAX_ROWS }
     requires columns { column < MAX_COLUMNS }
-    ensures { IfOk result (λ cell. IsFieldCell head least.now breaking
+    ensures { IfOk result (λ cell. IsFieldCell form.now.head form.now.least.now form.now.breaking
         (record { row = row; column = column; field = text.now }) (out-TableCell cell)) }
 {
-    let blocks = blocks(alloc, text, breaking)?;
+    let blocks = blocks(alloc, text, form.breaking)?;
     Ok(TableCell {
-        kind: kind_in(head, row),
+        kind: kind_in(form.head, row),
         in_head: false,
         place: slot_in(row, column),
-        least: floor_in(least, row, column),
+        least: floor_in(form.least, row, column),
         align: None,
         blocks,
     })
@@ -131,9 +140,7 @@ fn row_cells(
     alloc: Global,
     fields: &Record,
     row: u32,
-    head: bool,
-    least: &[u32],
-    breaking: Breaking,
+    form: &CellForm<'_>,
     mut cells: List<TableCell>,
 ) -> Result<List<TableCell>, AllocError>
     requires utf8 { All IsUtf8 fields.now }
@@ -141,11 +148,11 @@ fn row_cells(
     requires rows { row < MAX_ROWS }
     requires columns { length fields.now ≤ MAX_COLUMNS }
     ensures { IfOk result (λ after. (more : List TableCell) × (after ≡ cells ++ more)
-        × AllZip (λ at cell. IsFieldCell head least.now breaking at (out-TableCell cell)) (placed_in row fields.now) more) }
+        × AllZip (λ at cell. IsFieldCell form.now.head form.now.least.now form.now.breaking at (out-TableCell cell)) (placed_in row fields.now) more) }
 {
     for column in 0..fields.len() {
         let text = text_of(fields.field(column));
-        let made = cell(alloc, text, row, column as u32, head, least, breaking)?;
+        let made = cell(alloc, text, row, column as u32, form)?;
         cells.push(made)?;
     }
     Ok(cells)
@@ -155,18 +162,17 @@ fn row_cells(
 pub(crate) fn cells_of(
     alloc: Global,
     records: &[Record],
-    head: bool,
-    least: &[u32],
-    breaking: Breaking,
+    form: &CellForm<'_>,
 ) -> Result<List<TableCell>, AllocError>
     requires well_formed { All (IsWellFormed (column_count records.now)) records.now }
     requires limits { AreWithinLimits records.now }
     requires small { AreOfFile records.now }
-    ensures { IfOk result (AllZip (λ at cell. IsFieldCell head least.now breaking at (out-TableCell cell)) (placed_fields records.now)) }
+    ensures { IfOk result (AllZip (λ at cell. IsFieldCell form.now.head form.now.least.now form.now.breaking at (out-TableCell cell))
+        (placed_fields records.now)) }
 {
     let mut cells = List::new(alloc);
     for (row, fields) in records.iter().enumerate() {
-        cells = row_cells(alloc, fields, row as u32, head, least, breaking, cells)?;
+        cells = row_cells(alloc, fields, row as u32, form, cells)?;
     }
     Ok(cells)
 }

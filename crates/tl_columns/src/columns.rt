@@ -15,7 +15,7 @@ ghost use Rattle.tl_columns.specs.Records.{csv_records};
 ghost use Rattle.tl_columns.specs.Refused.{IsCsvRefused};
 ghost use Rattle.tl_columns.specs.inner.Sizes.{AreOfFile};
 
-use crate::cells::cells_of;
+use crate::cells::{CellForm, cells_of};
 use crate::checks::{check_limits, check_records, column_count};
 use crate::error::CsvError;
 use crate::records::{Record, records};
@@ -24,20 +24,14 @@ use tl_base::Breaking;
 use tl_table::Table;
 
 /// The table of the records, or what is wrong with them.
-fn table_of(
-    alloc: Global,
-    records: &[Record],
-    head: bool,
-    least: &[u32],
-    breaking: Breaking,
-) -> Result<Table, CsvError>
+fn table_of(alloc: Global, records: &[Record], form: &CellForm<'_>) -> Result<Table, CsvError>
     requires { AreOfFile records.now }
-    ensures ok { IfOk result (IsCsvTable records.now head least.now breaking) }
+    ensures ok { IfOk result (IsCsvTable records.now form.now.head form.now.least.now form.now.breaking) }
     ensures err { IfErr result (IsMemoryOr (Memory alloc_error) (IsCsvRefused records.now)) }
 {
     check_records(records)?;
     check_limits(records)?;
-    let cells = cells_of(alloc, records, head, least, breaking)?;
+    let cells = cells_of(alloc, records, form)?;
     Ok(Table {
         number: 0,
         cols: column_count(records) as u32,
@@ -77,5 +71,10 @@ pub fn from_csv(
     ensures spellable { IfOk result (IsSpellable breaking) }
 {
     let list = records(alloc, bytes)?;
-    table_of(alloc, list.as_slice(), head, least, breaking)
+    let form = CellForm {
+        head,
+        least,
+        breaking,
+    };
+    table_of(alloc, list.as_slice(), &form)
 }

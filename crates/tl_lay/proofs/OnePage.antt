@@ -20,7 +20,7 @@ use Rattle.tl_table.specs.Tables.{OpenTable, OpenContent, tables_of}
 use Rattle.tl_table.specs.Layouts.{OpenLayout, width_for}
 use Rattle.tl_sides.specs.declared.side.Side.{Side}
 use Rattle.tl_align.specs.Sides.{side_of}
-use Rattle.tl_page.specs.declared.line.Line.{Line}
+use Rattle.tl_page.specs.declared.line.TextLine.{TextLine}
 use Rattle.tl_page.specs.declared.look.Look.{Look}
 use Rattle.tl_page.specs.Pages.{AreParagraphLines, IsPage, ShowsBlock, ShowsBy, ShowsCell, ShowsWithin, aligned, grid_of, line_from}
 use Rattle.tl_page.specs.Pages as pages
@@ -194,7 +194,7 @@ one_lines shows also look side w (block ∷ blocks) [] others flat is are = absu
 one_lines shows also look side w (block ∷ blocks) (one ∷ ones) [] flat is are = absurd are
 one_lines shows also look side w (block ∷ blocks) (one ∷ ones) (other ∷ others) flat is are =
     flat_map-cons (λ (part : pages.Content). part.lines) one ones
-    ∙ ap₂ (λ (first rest : List Line). first ++ rest)
+    ∙ ap₂ (λ (first rest : List TextLine). first ++ rest)
     (one_block shows also look side w (out-Content block) one other (flat_block block blocks flat) is.0 are.0)
     (one_lines shows also look side w blocks ones others (flat_blocks block blocks flat) is.1 are.1)
     ∙ sym (flat_map-cons (λ (part : pages.Content). part.lines) other others)
@@ -214,7 +214,7 @@ one_contents shows also look table layout [] (one ∷ ones) others flat is are =
 one_contents shows also look table layout (cell ∷ cells) [] others flat is are = absurd is
 one_contents shows also look table layout (cell ∷ cells) (one ∷ ones) [] flat is are = absurd are
 one_contents shows also look table layout (cell ∷ cells) (one ∷ ones) (other ∷ others) flat is are =
-    ap₂ (λ (first : List Line) (rest : List (List Line)). first ∷ rest)
+    ap₂ (λ (first : List TextLine) (rest : List (List TextLine)). first ∷ rest)
     (sym is.0.lines ∙ one_lines shows also look (side_of look.align table (out-TableCell cell))
     (width_for look.style layout (out-TableCell cell).place) (out-TableCell cell).blocks
     is.0.parts are.0.parts (flat_cell cell cells flat) is.0.blocks are.0.blocks ∙ are.0.lines)
@@ -228,7 +228,7 @@ one_page look table layout one other flat is are = by_depth is.0 are.0 is.1 are.
   by_depth zero depth shown drawn = absurd shown
   by_depth (suc deep) zero shown drawn = absurd drawn
   by_depth (suc deep) (suc depth) shown drawn =
-      shown.drawn ∙ ap (λ (lines : List (List Line)). lines_of (picture look.style (grid_of (out-Table table)) (out-Layout layout).widths
+      shown.drawn ∙ ap (λ (lines : List (List TextLine)). lines_of (picture look.style (grid_of (out-Table table)) (out-Layout layout).widths
       (out-Layout layout).heights lines))
       (one_contents (ShowsWithin deep look) (ShowsWithin depth look) look (out-Table table) (out-Layout layout) (out-Table table).cells
       shown.contents drawn.contents flat shown.cells drawn.cells)

@@ -10,13 +10,13 @@ use Rattle.std.specs.Char.{encode_utf8}
 use Rattle.tl_base.specs.declared.style.Style.TheVariants.{Plain, Frame}
 use Rattle.tl_sides.specs.declared.side.Side.TheVariants.{Left, Right, Center}
 use Rattle.tl_grid.specs.declared.shape.Place.{Place}
-use Rattle.tl_page.specs.declared.line.Line.{Line}
+use Rattle.tl_page.specs.declared.line.TextLine.{TextLine}
 use Rattle.tl_page.specs.Corners.{Grid}
 use Rattle.tl_page.specs.Pages.{aligned, indent}
 use Rattle.tl_page.specs.Pictures.{picture, lines_of}
 
 -- a line of characters of one column each
-abbrev line : List ℕ → ℕ → Line
+abbrev line : List ℕ → ℕ → TextLine
 line text width = record { text = text; width = width }
 
 -- ---- one line of 3 columns in a room of 6
@@ -62,7 +62,7 @@ prices = record {
   end = 0;
 }
 
-abbrev contents : List (List Line)
+abbrev contents : List (List TextLine)
 contents =
     map (aligned Left 4) (line (codes "Item") 4 ∷ [])
     ∷ map (aligned Right 3) (line (codes "No") 2 ∷ [])

@@ -14,7 +14,7 @@ use Rattle.tl_table.specs.declared.cell.Content.TheOpen as open_content
 use Rattle.tl_table.specs.declared.cell.Table.{Table, out-Table}
 use Rattle.tl_table.specs.declared.layout.Layout.{Layout, out-Layout}
 use Rattle.tl_page.specs.declared.line.Drawn.{Drawn}
-use Rattle.tl_page.specs.declared.line.Line.{Line}
+use Rattle.tl_page.specs.declared.line.TextLine.{TextLine}
 use Rattle.tl_page.specs.declared.look.Look.{Look}
 use Rattle.tl_page.specs.Pages.{AreParagraphLines, ShowsWithin, aligned, nested_lines}
 use Rattle.tl_page.specs.Pictures.{lines_of}
@@ -32,7 +32,7 @@ pub paragraph_fits : (style : Style) (w : ℕ) (paragraph : List Atom) (inner : 
 paragraph_fits style w paragraph inner next fit = (fit.fits.0.0, fit.fits.0.1, fit.fits.0.2)
 
 pub paragraph_shown : (look : Look) (side : Side) (w : ℕ) (paragraph : List Atom) (inner : List Layout) (next : ℕ)
-    (before lines more : List Line) →
+    (before lines more : List TextLine) →
     AreParagraphLines w paragraph more → lines ≡ before ++ map (aligned side w) more →
     ShowsPart look side w (open_content.Para paragraph) inner next next before lines
 paragraph_shown look side w paragraph inner next before lines more are written = record {
@@ -91,7 +91,7 @@ nested_given style w box inner next fit = record {
 pub nested_shown : (look : Look) (side : Side) (w : ℕ) (box : Box Table Global) (inner : List Layout) (next : ℕ) (layout : Layout)
     (cells : List Drawn)
     (page : List (List ℕ))
-    (before lines : List Line) → layout ≡ get_or inner next layout → next < length inner →
+    (before lines : List TextLine) → layout ≡ get_or inner next layout → next < length inner →
     ShowsCells look box.value layout cells →
     page ≡ lines_of (picture_with look.style (out-Table box.value) (out-Layout layout) cells) →
     lines ≡ before ++ nested_lines look.style layout page →

@@ -17,7 +17,7 @@ use Rattle.tl_base.specs.declared.style.Style.{Style}
 use Rattle.tl_base.specs.declared.style.Style.TheVariants.{Plain, Compact, Frame, Box, Rule, Apart}
 use Rattle.tl_base.specs.declared.style.Style.TheVariants as styles
 use Rattle.tl_grid.specs.declared.shape.Place.{Place}
-use Rattle.tl_page.specs.declared.line.Line.{Line}
+use Rattle.tl_page.specs.declared.line.TextLine.{TextLine}
 use Rattle.tl_page.specs.Corners.{Grid}
 use Rattle.tl_page.specs.Pictures.{Picture, picture, lines_of}
 use Rattle.tl_page.specs.Standing.{TextStandsAt}
@@ -123,7 +123,7 @@ upper = place 1 2 0 1
 abbrev lower : Place
 lower = place 1 2 1 2
 
-abbrev one : ℕ → Line
+abbrev one : ℕ → TextLine
 one letter = record { text = letter ∷ []; width = 1 }
 
 abbrev tall : Picture
@@ -280,12 +280,12 @@ empty_frame = refl
 abbrev nested : Picture
 nested = picture Frame (grid 1 1 (place 0 1 0 1 ∷ []) None) (1 ∷ []) (1 ∷ []) ((one 0x78 ∷ []) ∷ [])
 
-abbrev around : Style → List Line → Picture
+abbrev around : Style → List TextLine → Picture
 around style page = picture style (grid 2 2 (place 0 1 0 1 ∷ place 1 2 0 1 ∷ place 0 1 1 2 ∷ []) None)
     (3 ∷ 1 ∷ []) (1 ∷ 3 ∷ [])
     ((one 0x61 ∷ []) ∷ (one 0x62 ∷ []) ∷ page ∷ [])
 
-abbrev nested_page : List Line
+abbrev nested_page : List TextLine
 nested_page = map (λ text. record { text = text; width = 3 }) (lines_of nested)
 
 nested_frame : lines_of (around Frame nested_page) ≡

@@ -12,7 +12,7 @@ use Rattle.tl_text.specs.declared.paragraph.Atom.TheVariants.{Break}
 use Rattle.tl_text.specs.Paragraph.{unit_width, gap_before}
 use Rattle.tl_text.specs.Cuttings.{line_width}
 use Rattle.tl_text.proofs.Widths.{line_width-push}
-use Rattle.tl_page.specs.declared.line.Line.{Line}
+use Rattle.tl_page.specs.declared.line.TextLine.{TextLine}
 use Rattle.tl_page.specs.Pages.{text_of, line_text, line_from}
 use Rattle.tl_page.specs.Pictures.{spaces}
 use Rattle.tl_page.specs.inner.Lines.{gap_in_line}
@@ -55,7 +55,7 @@ break_width (first ∷ line) = omega (arith, line_width-push first line Break)
 -- a line is the same with a break at its end as without it
 pub line_from-break : (line : List Atom) → line_from (line ++ Break ∷ []) ≡ line_from line
 line_from-break line =
-    ap₂ (λ (text : List ℕ) (width : ℕ). let made : Line = record { text = text; width = width } in
+    ap₂ (λ (text : List ℕ) (width : ℕ). let made : TextLine = record { text = text; width = width } in
     made) (break_text line) (break_width line)
 
 -- a line's units up to one more

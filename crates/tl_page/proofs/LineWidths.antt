@@ -12,7 +12,7 @@ use Rattle.tl_grid.specs.Dropping.{IsPlaced}
 use Rattle.tl_grid.specs.Slots.{AreApart}
 use Rattle.tl_base.specs.Sizes.{position, room, total}
 use Rattle.tl_page.specs.declared.line.Drawn.{Drawn}
-use Rattle.tl_page.specs.declared.line.Line.{Line}
+use Rattle.tl_page.specs.declared.line.TextLine.{TextLine}
 use Rattle.tl_page.specs.declared.strip.Strip.{Strip}
 use Rattle.tl_page.specs.Corners.{Grid, owner_of, is_on_line}
 use Rattle.tl_page.specs.Pictures.{drawn_cell, drawn_cells, picture, filled, spaces, inside_cell, piece, picture_line, row_gaps}
@@ -23,10 +23,10 @@ use Rattle.tl_page.proofs.Sweeping.{IsSwept, strip_with, stands, whole_line}
 use Rattle.tl_page.proofs.Meeting.{through, through_both, through_same, bare_slot, cell_slot, gap_between, lies_over, has_slots}
 
 -- the line is as wide as it says, and no wider than its room
-abbrev pub IsInRoom : ℕ → Line → Type 0
+abbrev pub IsInRoom : ℕ → TextLine → Type 0
 IsInRoom columns line = TakesColumns line.text line.width × (line.width ≤ columns)
 
-line_filled : (columns : ℕ) (line : Line) → IsInRoom columns line → TakesColumns (filled columns (Some line)) columns
+line_filled : (columns : ℕ) (line : TextLine) → IsInRoom columns line → TakesColumns (filled columns (Some line)) columns
 line_filled columns line (wide, within) =
     HasWidth-append line.text (spaces (columns - line.width)) line.width (columns - line.width) columns wide
     (HasWidth-spaces (columns - line.width)) (omega (arith, within))
@@ -34,7 +34,7 @@ line_filled columns line (wide, within) =
 none_filled : (columns : ℕ) → TakesColumns (filled columns None) columns
 none_filled columns = HasWidth-spaces columns
 
-any_filled : (columns : ℕ) (lines : List Line) (k : ℕ) → AllByRecursion (IsInRoom columns) lines →
+any_filled : (columns : ℕ) (lines : List TextLine) (k : ℕ) → AllByRecursion (IsInRoom columns) lines →
     TakesColumns (filled columns (slice_get lines k)) columns
 any_filled columns [] k fit = none_filled columns
 any_filled columns (line ∷ lines) zero fit = line_filled columns line fit.0
@@ -58,9 +58,9 @@ later_cell cell slot from size y beyond =
     ap (λ t. if t && t then filled cell.columns (slice_get cell.lines (y - cell.first)) else [])
     (ne_eqb slot (cell.left + 1) (λ same. absurd (omega (arith, same, beyond))))
 
-module _ (style : Style) (grid : Grid) (widths heights : List ℕ) (contents : List (List Line)) where
+module _ (style : Style) (grid : Grid) (widths heights : List ℕ) (contents : List (List TextLine)) where
   -- the lines of a cell are within the room of its columns
-  abbrev pub HasRoom : Place → List Line → Type 0
+  abbrev pub HasRoom : Place → List TextLine → Type 0
   HasRoom place lines = AllByRecursion (IsInRoom (room (gap_of style) widths place.left place.right)) lines
 
   -- the grid and what stands in it
@@ -71,9 +71,9 @@ module _ (style : Style) (grid : Grid) (widths heights : List ℕ) (contents : L
     pub filled : AllZip HasRoom grid.places contents
 
   -- a cell as it is drawn
-  cell_drawn : (places : List Place) (contents : List (List Line)) (n : ℕ) (place : Place) → AllZip HasRoom places contents →
+  cell_drawn : (places : List Place) (contents : List (List TextLine)) (n : ℕ) (place : Place) → AllZip HasRoom places contents →
       slice_get places n ≡ Some place →
-      (lines : List Line) × HasRoom place lines × (slice_get contents n ≡ Some lines)
+      (lines : List TextLine) × HasRoom place lines × (slice_get contents n ≡ Some lines)
       × (slice_get (drawn_cells style (row_gaps style grid) widths heights places contents) n
       ≡ Some (drawn_cell style (row_gaps style grid) widths heights place lines))
   cell_drawn [] contents n place fit at = absurd (none-some place at)
@@ -112,7 +112,7 @@ module _ (style : Style) (grid : Grid) (widths heights : List ℕ) (contents : L
         (fit.placed n place (slice_get_within grid.places n place at))
 
     drawn_at : (n : ℕ) (place : Place) → slice_get grid.places n ≡ Some place →
-        (lines : List Line) × HasRoom place lines × (slice_get contents n ≡ Some lines)
+        (lines : List TextLine) × HasRoom place lines × (slice_get contents n ≡ Some lines)
         × (slice_get (drawn_cells style (row_gaps style grid) widths heights grid.places contents) n
         ≡ Some (drawn_cell style (row_gaps style grid) widths heights place lines))
     drawn_at n place at = cell_drawn grid.places contents n place fit.filled at
@@ -173,7 +173,7 @@ module _ (style : Style) (grid : Grid) (widths heights : List ℕ) (contents : L
     line_wide = whole_line kind grid.places (gap_of style) (edge_of style) widths content piece_at swept
 
     -- the line of a cell that goes through stands after all columns before the cell
-    pub cell_stands : (n : ℕ) (place : Place) (lines : List Line) → slice_get grid.places n ≡ Some place →
+    pub cell_stands : (n : ℕ) (place : Place) (lines : List TextLine) → slice_get grid.places n ≡ Some place →
         slice_get contents n ≡ Some lines →
         place.top < down.before → down.before ≤ place.bottom → place.top < down.after → down.after ≤ place.bottom →
         (before after : List ℕ) × TakesColumns before (edge_of style + position (gap_of style) widths place.left)
@@ -193,6 +193,6 @@ module _ (style : Style) (grid : Grid) (widths heights : List ℕ) (contents : L
         let text : content n ≡ filled (room (gap_of style) widths place.left place.right)
         (slice_get lines (y - (edge_of style + begin_in (row_gaps style grid) heights place.top))) =
         ap (λ some. content_at some y) cell.3
-        ∙ ap (λ (list : List Line). filled (room (gap_of style) widths place.left place.right)
+        ∙ ap (λ (list : List TextLine). filled (room (gap_of style) widths place.left place.right)
         (slice_get list (y - (edge_of style + begin_in (row_gaps style grid) heights place.top)))) same in
         (found.0, found.1, found.2, found.3 ∙ ap (λ content. found.0 ++ (content ++ found.1)) text)

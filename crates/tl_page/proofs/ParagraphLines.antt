@@ -11,7 +11,7 @@ use Rattle.tl_text.specs.Paragraph.{unit_width, atom_size}
 use Rattle.tl_text.specs.Cuttings.{joined, HasCutting}
 use Rattle.tl_text.specs.Ranges.{AreConsecutive, ShowsLine, ShowsGreedyCutting, IsFirstTooWide}
 use Rattle.tl_text.proofs.Paragraphs.{AllFit, atoms-of-cut-fit}
-use Rattle.tl_page.specs.declared.line.Line.{Line}
+use Rattle.tl_page.specs.declared.line.TextLine.{TextLine}
 use Rattle.tl_page.specs.Pages.{AreParagraphLines, line_from}
 use Rattle.tl_page.specs.inner.Lines.{ranged}
 use Rattle.tl_page.proofs.LineTexts.{line_from-break}
@@ -23,7 +23,7 @@ ranges_lines atoms [] [] shown = refl
 ranges_lines atoms [] (line ∷ lines) shown = absurd shown
 ranges_lines atoms (range ∷ ranges) [] shown = absurd shown
 ranges_lines atoms (range ∷ ranges) (line ∷ lines) shown =
-    ap₂ (λ (here : Line) (rest : List Line). here ∷ rest)
+    ap₂ (λ (here : TextLine) (rest : List TextLine). here ∷ rest)
     (elim shown.0 [ inl same ↦ ap line_from same | inr ended ↦ ap line_from ended ∙ line_from-break line ])
     (ranges_lines atoms ranges lines shown.1)
 

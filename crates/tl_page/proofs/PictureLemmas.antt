@@ -6,7 +6,7 @@ use Rattle.tl_base.specs.Style.{gap_of, edge_of}
 use Rattle.tl_base.specs.Sizes.{room}
 use Rattle.tl_grid.specs.declared.shape.Place.{Place}
 use Rattle.tl_page.specs.declared.line.Drawn.{Drawn}
-use Rattle.tl_page.specs.declared.line.Line.{Line}
+use Rattle.tl_page.specs.declared.line.TextLine.{TextLine}
 use Rattle.tl_page.specs.declared.owner.Owner.{Owner}
 use Rattle.tl_page.specs.declared.strip.Gaps.{Gaps}
 use Rattle.tl_page.specs.declared.strip.Strip.{Strip}
@@ -41,10 +41,10 @@ same_strips gaps gaps' edge edge' sizes sizes' one two three =
     (λ (some : List ℕ). strips gaps' edge' some) three
 
 -- a cell with its lines, by the numbers that the code finds
-abbrev pub cell_with : ℕ → ℕ → ℕ → List Line → Drawn
+abbrev pub cell_with : ℕ → ℕ → ℕ → List TextLine → Drawn
 cell_with left columns first lines = record { left = left; columns = columns; first = first; lines = lines }
 
-pub same_drawn : (style : Style) (rows : Gaps) (widths heights : List ℕ) (place : Place) (columns first : ℕ) (lines : List Line) →
+pub same_drawn : (style : Style) (rows : Gaps) (widths heights : List ℕ) (place : Place) (columns first : ℕ) (lines : List TextLine) →
     columns ≡ room (gap_of style) widths place.left place.right →
     first ≡ edge_of style + begin_in rows heights place.top →
     cell_with place.left columns first lines ≡ drawn_cell style rows widths heights place lines
@@ -53,5 +53,5 @@ same_drawn style rows widths heights place columns first lines one two =
     ∙ ap (λ (some : ℕ). cell_with place.left (room (gap_of style) widths place.left place.right) some lines) two
 
 -- a line of this width
-abbrev pub line_with : ℕ → List ℕ → Line
+abbrev pub line_with : ℕ → List ℕ → TextLine
 line_with width text = record { text = text; width = width }

@@ -24,7 +24,7 @@ use Rattle.tl_table.specs.Tables.{OpenTable, OpenCell}
 use Rattle.tl_table.specs.Layouts.{OpenLayout, Share, FitsShare, FitsCell, FitsWithin, lines_of, width_for, height_for}
 use Rattle.tl_table.specs.Sound.{place_of, places_of}
 use Rattle.tl_page.specs.declared.line.Drawn.{Drawn}
-use Rattle.tl_page.specs.declared.line.Line.{Line}
+use Rattle.tl_page.specs.declared.line.TextLine.{TextLine}
 use Rattle.tl_page.specs.declared.look.Look.{Look}
 use Rattle.tl_page.specs.declared.strip.Gaps.{Gaps}
 use Rattle.tl_page.specs.Pages.{Content, ShowsBlock, ShowsCellOf, ShowsWithin, grid_of}
@@ -62,7 +62,7 @@ one_further before one left now all step sofar = append_assoc before one left �
 
 -- the first `i` blocks stand in the lines, and the others are left to fit
 pub record BlocksSoFar (look : Look) (side : Side) (w : ℕ) (blocks : List Block) (inner : List Layout) (start : ℕ) (i next : ℕ)
-    (lines : List Line) : Type 0 where
+    (lines : List TextLine) : Type 0 where
   pub depth : ℕ
   pub parts : List Content
   pub shows : AllZip (λ block part. ShowsBlock (ShowsWithin depth look) look side w (out-Content block) part) (take i blocks) parts
@@ -93,7 +93,7 @@ blocks-none look side w cell inner start fit = record {
 }
 
 -- the next block fits by the next layouts
-pub block-next : (look : Look) (side : Side) (w : ℕ) (blocks : List Block) (inner : List Layout) (start i next : ℕ) (lines : List Line)
+pub block-next : (look : Look) (side : Side) (w : ℕ) (blocks : List Block) (inner : List Layout) (start i next : ℕ) (lines : List TextLine)
     (block : Block) →
     w ≤ MAX_PAGE_WIDTH → i < length blocks → block ≡ get_or blocks i block → BlocksSoFar look side w blocks inner start i next lines →
     FitsBlockRoom look.style w (out-Content block) inner next
@@ -116,7 +116,7 @@ block-next look side w blocks inner start i next lines block narrow within is so
 
 -- the next block stands after those so far
 pub blocks-more : (look : Look) (side : Side) (w : ℕ) (blocks : List Block) (inner : List Layout) (start i next after : ℕ)
-    (lines new : List Line) (block : Block) →
+    (lines new : List TextLine) (block : Block) →
     i < length blocks → block ≡ get_or blocks i block → BlocksSoFar look side w blocks inner start i next lines →
     ShowsPart look side w (out-Content block) inner next after lines new → BlocksSoFar look side w blocks inner start (i + 1) after new
 blocks-more look side w blocks inner start i next after lines new block within is sofar part =
@@ -160,7 +160,7 @@ blocks-more look side w blocks inner start i next after lines new block within i
           given part.rest;
     }
 
-pub blocks-all : (look : Look) (side : Side) (w : ℕ) (cell : OpenCell) (inner : List Layout) (start i next : ℕ) (lines : List Line) →
+pub blocks-all : (look : Look) (side : Side) (w : ℕ) (cell : OpenCell) (inner : List Layout) (start i next : ℕ) (lines : List TextLine) →
     take i cell.blocks ≡ cell.blocks →
     BlocksSoFar look side w cell.blocks inner start i next lines → ShowsParts look side w cell inner start next lines
 blocks-all look side w cell inner start i next lines all sofar = record {
@@ -180,8 +180,8 @@ blocks-all look side w cell inner start i next lines all sofar = record {
 
 -- ---- the cells of a table
 
-drawn_cells-push : (style : Style) (gaps : Gaps) (widths heights : List ℕ) (places : List Place) (contents : List (List Line))
-    (place : Place) (lines : List Line) →
+drawn_cells-push : (style : Style) (gaps : Gaps) (widths heights : List ℕ) (places : List Place) (contents : List (List TextLine))
+    (place : Place) (lines : List TextLine) →
     length places ≡ length contents →
     drawn_cells style gaps widths heights (places ++ place ∷ []) (contents ++ lines ∷ [])
     ≡ drawn_cells style gaps widths heights places contents ++ drawn_cell style gaps widths heights place lines ∷ []
@@ -286,7 +286,7 @@ cell-next look table layout i next cells cell fit placed within is sofar =
 
 -- the next cell is drawn after those so far
 pub cells-more : (look : Look) (table : OpenTable) (layout : OpenLayout) (i next after : ℕ) (cells : List Drawn)
-    (lines : List Line) (cell : TableCell) →
+    (lines : List TextLine) (cell : TableCell) →
     i < length table.cells → cell ≡ get_or table.cells i cell → CellsSoFar look table layout i next cells →
     ShowsParts look (side_of look.align table (out-TableCell cell)) (width_for look.style layout (place_of cell)) (out-TableCell cell)
     layout.inner next after lines →
@@ -321,7 +321,7 @@ cells-more look table layout i next after cells lines cell within is sofar part 
       depth = deep;
       contents = sofar.contents ++ part.content ∷ [];
       shows = AllZip-taken shown table.cells sofar.contents i cell cell part.content within is others this;
-      written = ap₂ (λ (before : List Drawn) (last : List Line). before ++ drawn_cell look.style (row_gaps look.style (grid_of table))
+      written = ap₂ (λ (before : List Drawn) (last : List TextLine). before ++ drawn_cell look.style (row_gaps look.style (grid_of table))
           layout.widths layout.heights (place_of cell) last ∷ [])
           sofar.written part.written
           ∙ sym (drawn_cells-push look.style (row_gaps look.style (grid_of table)) layout.widths layout.heights (map place_of (take i table.cells))

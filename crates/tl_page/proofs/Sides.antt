@@ -6,7 +6,7 @@ use Rattle.tl_sides.specs.declared.side.Side.TheVariants.{Left, Right, Center}
 use Rattle.tl_table.specs.declared.cell.TableCell.{TableCell, out-TableCell}
 use Rattle.tl_table.specs.Tables.{OpenTable}
 use Rattle.tl_align.specs.Sides.{side_of, sides_of}
-use Rattle.tl_page.specs.declared.line.Line.{Line}
+use Rattle.tl_page.specs.declared.line.TextLine.{TextLine}
 use Rattle.tl_page.specs.declared.look.Look.{Look}
 use Rattle.tl_page.specs.Pages.{aligned, indent}
 use Rattle.tl_page.specs.Pictures.{spaces}
@@ -20,7 +20,7 @@ indent_few Right columns width = omega arith
 indent_few Center columns width = omega arith
 
 -- a line in its room is in it at each side
-pub aligned_in_room : (side : Side) (columns : ℕ) (line : Line) → IsInRoom columns line → IsInRoom columns (aligned side columns line)
+pub aligned_in_room : (side : Side) (columns : ℕ) (line : TextLine) → IsInRoom columns line → IsInRoom columns (aligned side columns line)
 aligned_in_room side columns line (wide, within) =
     let before = indent side columns line.width in (
       HasWidth-append (spaces before) line.text before line.width (before + line.width) (HasWidth-spaces before) wide refl,

@@ -31,7 +31,7 @@ use Rattle.tl_table.specs.Layouts.{total_height, width_for}
 use Rattle.tl_table.specs.Layouts.{height_for}
 use Rattle.tl_table.specs.Sound.{IsSound, IsSoundWithin, place_of, places_of, IsSoundBlock, IsSoundCell}
 use Rattle.tl_table.proofs.SoundParts.{sound_cells, sound_blocks}
-use Rattle.tl_page.specs.declared.line.Line.{Line}
+use Rattle.tl_page.specs.declared.line.TextLine.{TextLine}
 use Rattle.tl_page.specs.declared.look.Look.{Look}
 use Rattle.tl_page.specs.Pages.{Content, ShowsBlock, ShowsCell, ShowsCellOf, ShowsBy, ShowsWithin, aligned, grid_of}
 use Rattle.tl_page.specs.Pages.{line_from}
@@ -55,7 +55,7 @@ same_first : {X : Type 0} (xs ys more rest : List X) → length xs ≡ length ys
 same_first xs ys more rest same one =
     sym (take_at xs more (length xs) refl) ∙ ap (take (length xs)) one ∙ take_at ys rest (length xs) (sym same)
 
-abbrev texts_of : List Line → List (List ℕ)
+abbrev texts_of : List TextLine → List (List ℕ)
 texts_of lines = map (λ line. line.text) lines
 
 texts_from : (side : Side) (w : ℕ) (lines : List (List Atom)) →
@@ -64,13 +64,13 @@ texts_from side w [] = refl
 texts_from side w (line ∷ lines) = ap (λ rest. aligned_text side w line ∷ rest) (texts_from side w lines)
 
 texts_nested : (width : ℕ) (page : List (List ℕ)) →
-    texts_of (map (λ (text : List ℕ). let line : Line = record { text = text; width = width } in line) page) ≡ page
+    texts_of (map (λ (text : List ℕ). let line : TextLine = record { text = text; width = width } in line) page) ≡ page
 texts_nested width [] = refl
 texts_nested width (text ∷ page) = ap (λ rest. text ∷ rest) (texts_nested width page)
 
 -- the line of a text
-line_with_text : (lines : List Line) (k : ℕ) (text : List ℕ) → slice_get (texts_of lines) k ≡ Some text →
-    (line : Line) × (slice_get lines k ≡ Some line) × (line.text ≡ text)
+line_with_text : (lines : List TextLine) (k : ℕ) (text : List ℕ) → slice_get (texts_of lines) k ≡ Some text →
+    (line : TextLine) × (slice_get lines k ≡ Some line) × (line.text ≡ text)
 line_with_text [] k text at = absurd (none-some text at)
 line_with_text (line ∷ lines) zero text at = (line, refl, same_Some line.text text at)
 line_with_text (line ∷ lines) (suc k) text at = line_with_text lines k text at
@@ -96,7 +96,7 @@ lines_in_room side w (line ∷ lines) holds =
     (aligned_in_room side w (line_from line) (HasWidth-line line, holds.0), lines_in_room side w lines holds.1)
 
 nested_in_room : (w width : ℕ) (page : List (List ℕ)) → width ≤ w → AllByRecursion (λ line. TakesColumns line width) page →
-    AllByRecursion (IsInRoom w) (map (λ (text : List ℕ). let line : Line = record { text = text; width = width } in line) page)
+    AllByRecursion (IsInRoom w) (map (λ (text : List ℕ). let line : TextLine = record { text = text; width = width } in line) page)
 nested_in_room w width [] within wide = tt
 nested_in_room w width (line ∷ page) within wide = ((wide.0, within), nested_in_room w width page within wide.1)
 
@@ -117,7 +117,7 @@ module _ (depth : ℕ) (look : Look)
     ShowsWithin depth look table layout page → IsWhole depth look table layout page) where
   -- ---- a block
 
-  record IsBlockWhole (side : Side) (w h : ℕ) (block : OpenContent) (lines : List Line) : Type 0 where
+  record IsBlockWhole (side : Side) (w h : ℕ) (block : OpenContent) (lines : List TextLine) : Type 0 where
     pub in_room : AllByRecursion (IsInRoom w) lines
     pub low : length lines ≤ h
     pub text : AreTextsOf look (HoldsWithin depth look) side w block (texts_of lines)
@@ -153,7 +153,7 @@ module _ (depth : ℕ) (look : Look)
         low = omega (
           arith,
           ap length shows.lines,
-          length-map shows.page (λ (text : List ℕ). let line : Line = record { text = text; width = width } in line),
+          length-map shows.page (λ (text : List ℕ). let line : TextLine = record { text = text; width = width } in line),
           as_high look box.value shows.layout shows.page (depth, shows.shown),
           parts.1,
           fit.within,
@@ -165,7 +165,7 @@ module _ (depth : ℕ) (look : Look)
 
   -- ---- the blocks of a cell
 
-  record AreBlocksWhole (side : Side) (w h : ℕ) (blocks : List Block) (lines : List Line) : Type 0 where
+  record AreBlocksWhole (side : Side) (w h : ℕ) (blocks : List Block) (lines : List TextLine) : Type 0 where
     pub in_room : AllByRecursion (IsInRoom w) lines
     pub low : length lines ≤ h
     pub texts : List (List (List ℕ))
@@ -211,7 +211,7 @@ module _ (depth : ℕ) (look : Look)
         texts = texts_of part.lines ∷ rest.texts;
         each = (one.text, rest.each);
         all = ap (λ more. texts_of part.lines ++ more) rest.all
-            ∙ sym (map-append (λ (line : Line). line.text) part.lines (flat_map (λ part. part.lines) parts));
+            ∙ sym (map-append (λ (line : TextLine). line.text) part.lines (flat_map (λ part. part.lines) parts));
       }
 
   -- ---- a cell
@@ -272,7 +272,7 @@ module _ (depth : ℕ) (look : Look)
       (fit : FitsBy (FitsWithin level look.style) look.style table width height layout)
       (shows : ShowsBy (ShowsWithin depth look) look table layout page)
       (cells : AllZip (IsCellWhole table layout) table.cells shows.contents) where
-    abbrev contents : List (List Line)
+    abbrev contents : List (List TextLine)
     contents = map (λ content. content.lines) shows.contents
 
     abbrev drawn_picture : Picture
@@ -295,7 +295,7 @@ module _ (depth : ℕ) (look : Look)
         (λ down y. line_wide look.style (grid_of table) layout.widths layout.heights contents filled_in down y))
 
     -- line `k` of a cell stands on the page
-    line_stands : (n k : ℕ) (place : Place) (lines : List Line) (line : Line) → slice_get (places_of table) n ≡ Some place →
+    line_stands : (n k : ℕ) (place : Place) (lines : List TextLine) (line : TextLine) → slice_get (places_of table) n ≡ Some place →
         slice_get contents n ≡ Some lines → IsPlaced table.cols table.rows place →
         length lines ≤ height_for look.style table layout place →
         slice_get lines k ≡ Some line →

@@ -5,7 +5,7 @@ use Rattle.std.specs.Char.{encode_utf8}
 use Rattle.std.specs.List.{AllByRecursion, flat_map}
 use Rattle.std.proofs.lemmas.List.Concat.{flat_map-append}
 use Rattle.std.proofs.lemmas.List.Sums.{sum_by-cons, sum_by-append}
-use Rattle.tl_page.specs.declared.line.Line.{Line}
+use Rattle.tl_page.specs.declared.line.TextLine.{TextLine}
 use Rattle.tl_text.specs.declared.paragraph.Atom.{Atom}
 use Rattle.tl_text.specs.Paragraph.{unit_width, gap_before}
 use Rattle.tl_text.specs.Cuttings.{line_width}
@@ -15,7 +15,7 @@ use Rattle.tl_page.specs.Signs.{IsSign, run}
 use Rattle.tl_page.specs.Widths.{IsPiece, TakesColumns}
 use Rattle.tl_page.proofs.SignLemmas.{run-spaces}
 
-both : (P : Line → Type 0) (xs ys : List Line) → AllByRecursion P xs → AllByRecursion P ys → AllByRecursion P (xs ++ ys)
+both : (P : TextLine → Type 0) (xs ys : List TextLine) → AllByRecursion P xs → AllByRecursion P ys → AllByRecursion P (xs ++ ys)
 both P [] ys one other = other
 both P (x ∷ xs) ys one other = (one.0, both P xs ys one.1 other)
 
@@ -28,9 +28,9 @@ pub HasWidth-append : (text more : List ℕ) (width columns all : ℕ) → Takes
 HasWidth-append text more width columns all one other sum = record {
   pieces = one.pieces ++ other.pieces;
   each = both IsPiece one.pieces other.pieces one.each other.each;
-  bytes = flat_map-append (λ (piece : Line). piece.text) one.pieces other.pieces ∙ ap₂ (λ (left right : List ℕ). left ++ right)
+  bytes = flat_map-append (λ (piece : TextLine). piece.text) one.pieces other.pieces ∙ ap₂ (λ (left right : List ℕ). left ++ right)
       one.bytes other.bytes;
-  columns = omega (arith, sum_by-append (λ (piece : Line). piece.width) one.pieces other.pieces, one.columns, other.columns, sum);
+  columns = omega (arith, sum_by-append (λ (piece : TextLine). piece.width) one.pieces other.pieces, one.columns, other.columns, sum);
 }
 
 -- a run of one sign
@@ -38,12 +38,12 @@ pub HasWidth-run : (sign count : ℕ) → IsSign sign → TakesColumns (run coun
 HasWidth-run sign zero is = HasWidth-none
 HasWidth-run sign (suc count) is =
     let rest = HasWidth-run sign count is in
-    let piece : Line = record { text = encode_utf8 sign; width = 1 } in
+    let piece : TextLine = record { text = encode_utf8 sign; width = 1 } in
     record {
       pieces = piece ∷ rest.pieces;
       each = (inr (sign, is, refl), rest.each);
       bytes = ap (λ more. encode_utf8 sign ++ more) rest.bytes;
-      columns = omega (arith, sum_by-cons (λ (piece : Line). piece.width) piece rest.pieces, rest.columns);
+      columns = omega (arith, sum_by-cons (λ (piece : TextLine). piece.width) piece rest.pieces, rest.columns);
     }
 
 pub HasWidth-is : (text : List ℕ) (width columns : ℕ) → TakesColumns text width → width ≡ columns → TakesColumns text columns
@@ -74,12 +74,12 @@ HasWidth-spaces count =
 -- a unit takes the columns of its text
 pub HasWidth-unit : (unit : Atom) → TakesColumns (text_of unit) (unit_width unit)
 HasWidth-unit unit =
-    let piece : Line = record { text = text_of unit; width = unit_width unit } in
+    let piece : TextLine = record { text = text_of unit; width = unit_width unit } in
     record {
       pieces = piece ∷ [];
       each = (inl (unit, refl), tt);
       bytes = append-nil (text_of unit);
-      columns = omega (arith, sum_by-cons (λ (piece : Line). piece.width) piece []);
+      columns = omega (arith, sum_by-cons (λ (piece : TextLine). piece.width) piece []);
     }
 
 -- units each with the gap before it

@@ -8,7 +8,7 @@ use Rattle.tl_table.specs.declared.cell.Table.{Table, out-Table}
 use Rattle.tl_table.specs.declared.layout.Layout.{Layout, out-Layout}
 use Rattle.tl_table.specs.Layouts.{Fits, total_width, total_height}
 use Rattle.tl_table.specs.Sound.{IsSound}
-use Rattle.tl_page.specs.declared.line.Line.{Line}
+use Rattle.tl_page.specs.declared.line.TextLine.{TextLine}
 use Rattle.tl_page.specs.declared.look.Look.{Look}
 use Rattle.tl_page.specs.Pages.{AreParagraphLines, IsPage, line_from}
 use Rattle.tl_page.specs.Signs.{IsSign}
@@ -26,7 +26,7 @@ PagesAreAsHigh = (look : Look) (table : Table) (layout : Layout) (page : List (L
 
 -- the lines of a paragraph have all its units, whole and in order
 abbrev pub ParagraphsAreWhole : Type 0
-ParagraphsAreWhole = (w : ℕ) (paragraph : List Atom) (lines : List Line) → AreParagraphLines w paragraph lines →
+ParagraphsAreWhole = (w : ℕ) (paragraph : List Atom) (lines : List TextLine) → AreParagraphLines w paragraph lines →
     (cut : List (List (List Atom))) × IsCutting paragraph cut × (lines ≡ map line_from (joined cut))
 
 -- each line of a page in a layout that fits is as wide as the layout

@@ -19,7 +19,7 @@ use Rattle.tl_table.specs.Tables.{OpenTable, OpenCell, OpenContent}
 use Rattle.tl_table.specs.Heads.{end_of_head, head_row}
 use Rattle.tl_table.specs.Layouts.{OpenLayout, total_width, width_for}
 use Rattle.tl_table.specs.Sound.{places_of}
-use Rattle.tl_page.specs.declared.line.Line.{Line}
+use Rattle.tl_page.specs.declared.line.TextLine.{TextLine}
 use Rattle.tl_page.specs.declared.look.Look.{Look}
 use Rattle.tl_page.specs.Corners.{Grid}
 use Rattle.tl_page.specs.Pictures.{picture, spaces, lines_of}
@@ -38,11 +38,11 @@ line_text [] = []
 line_text (unit ∷ units) = text_of unit ++ flat_map (λ next. spaces (gap_before next) ++ text_of next) units
 
 -- a line of units with its width
-abbrev pub line_from : List Atom → Line
+abbrev pub line_from : List Atom → TextLine
 line_from units = record { text = line_text units; width = line_width units }
 
 -- the lines of the paragraph's greedy cutting in `w` columns
-abbrev pub AreParagraphLines : ℕ → List Atom → List Line → Type 0
+abbrev pub AreParagraphLines : ℕ → List Atom → List TextLine → Type 0
 AreParagraphLines w paragraph lines =
     (cut : List (List (List Atom))) × IsGreedyCutting w paragraph cut × (lines ≡ map line_from (joined cut))
 
@@ -56,7 +56,7 @@ indent Right columns width = columns - width
 indent Center columns width = (columns - width) / 2
 
 -- the line with the spaces before it that bring it to its side of a room of so many columns
-abbrev pub aligned : Side → ℕ → Line → Line
+abbrev pub aligned : Side → ℕ → TextLine → TextLine
 aligned side columns line = record {
   text = spaces (indent side columns line.width) ++ line.text;
   width = indent side columns line.width + line.width;
@@ -66,16 +66,16 @@ aligned side columns line = record {
 
 -- what a part of a cell gives: its lines, and the layouts of the nested tables in it that were used
 pub record Content : Type 0 where
-  pub lines : List Line
+  pub lines : List TextLine
   pub inner : List Layout
 
 -- the lines of a nested table's page: each is as wide as the layout
-abbrev pub nested_lines : Style → Layout → List (List ℕ) → List Line
+abbrev pub nested_lines : Style → Layout → List (List ℕ) → List TextLine
 nested_lines style layout page = map (λ text. record { text = text; width = total_width style (out-Layout layout) }) page
 
 -- a paragraph at a side of a room of `w` columns: each line is aligned alone
 pub record ShowsParagraph (side : Side) (w : ℕ) (paragraph : List Atom) (content : Content) : Type 0 where
-  pub lines : List Line
+  pub lines : List TextLine
   pub cut : AreParagraphLines w paragraph lines
   pub at_side : content.lines ≡ map (aligned side w) lines
   pub inner : content.inner ≡ []

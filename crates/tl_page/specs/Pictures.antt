@@ -11,7 +11,7 @@ use Rattle.tl_grid.specs.declared.shape.Place.{Place}
 use Rattle.tl_page.specs.declared.owner.Owner.{Owner}
 use Rattle.tl_page.specs.declared.owner.Owner.TheVariants.{Outside, Bare, Cell}
 use Rattle.tl_page.specs.declared.line.Drawn.{Drawn}
-use Rattle.tl_page.specs.declared.line.Line.{Line}
+use Rattle.tl_page.specs.declared.line.TextLine.{TextLine}
 use Rattle.tl_page.specs.declared.strip.Gaps.{Gaps}
 use Rattle.tl_page.specs.declared.strip.Lined.{Lined}
 use Rattle.tl_page.specs.declared.strip.Lined.TheVariants.{No, After, From}
@@ -47,7 +47,7 @@ row_gaps style grid = record { between = row_gap_of style; lined = lined_rows st
 
 -- a cell with its lines, where the rows stand so far apart: it begins in its first column, and on the page's line where its
 -- first row begins, and has the room of its columns
-abbrev pub drawn_cell : Style → Gaps → List ℕ → List ℕ → Place → List Line → Drawn
+abbrev pub drawn_cell : Style → Gaps → List ℕ → List ℕ → Place → List TextLine → Drawn
 drawn_cell style rows widths heights place lines = record {
   left = place.left;
   columns = room (gap_of style) widths place.left place.right;
@@ -56,14 +56,14 @@ drawn_cell style rows widths heights place lines = record {
 }
 
 -- each cell with its lines, in the order of their places
-abbrev pub drawn_cells : Style → Gaps → List ℕ → List ℕ → List Place → List (List Line) → List Drawn
+abbrev pub drawn_cells : Style → Gaps → List ℕ → List ℕ → List Place → List (List TextLine) → List Drawn
 drawn_cells style rows widths heights [] contents = []
 drawn_cells style rows widths heights (place ∷ places) [] = []
 drawn_cells style rows widths heights (place ∷ places) (lines ∷ contents) =
     drawn_cell style rows widths heights place lines ∷ drawn_cells style rows widths heights places contents
 
 -- the picture of cells in a grid, with these widths of its columns, heights of its rows and lines in its cells
-abbrev pub picture : Style → Grid → List ℕ → List ℕ → List (List Line) → Picture
+abbrev pub picture : Style → Grid → List ℕ → List ℕ → List (List TextLine) → Picture
 picture style grid widths heights contents = record {
   style = style;
   across = strips (even (gap_of style)) (edge_of style) widths;
@@ -80,7 +80,7 @@ abbrev pub spaces : ℕ → List ℕ
 spaces count = replicate count 0x20
 
 -- a line filled with spaces to the room; spaces where there is no line
-abbrev pub filled : ℕ → Option Line → List ℕ
+abbrev pub filled : ℕ → Option TextLine → List ℕ
 filled columns (Some line) = line.text ++ spaces (columns - line.width)
 filled columns None = spaces columns
 

@@ -10,7 +10,7 @@ ghost use Rattle.tl_page.specs.Pages.{grid_of, nested_lines};
 ghost use Rattle.tl_page.specs.Pictures.{lines_of, lined_rows, row_gaps};
 ghost use Rattle.tl_page.specs.inner.Contents.{FitsPage, FitsCellRoom, FitsBlockRoom, ShowsPart, ShowsParts, ShowsCells, picture_with};
 
-use crate::line::{Drawn, Line, Room};
+use crate::line::{Drawn, Room, TextLine};
 use crate::look::Look;
 use crate::owners::Owners;
 use crate::paragraph::put_paragraph;
@@ -24,7 +24,7 @@ use tl_table::{Content, Layout, Table, TableCell, head_end, head_row};
 /// The lines of a cell, and the number of the first layout of a nested table that it leaves.
 #[derive(Drop)]
 pub struct Part {
-    pub lines: List<Line>,
+    pub lines: List<TextLine>,
     pub next: usize,
 }
 
@@ -107,41 +107,45 @@ fn cell_part(
     ensures { IfOk result (λ part. ShowsParts look.now room.side room.columns (out-TableCell cell.now) inner.now next part.next part.lines) }
 {
     // Most blocks are one line.
-    let mut lines = List::from_vec(Vec::with_capacity(alloc, cell.blocks.len())?);
-    let mut next = next;
+    let lines = List::from_vec(Vec::with_capacity(alloc, cell.blocks.len())?);
+    let mut part = Part { lines, next };
     for block in cell.blocks.as_slice() {
-        next = put_block(alloc, &mut lines, block, look, room, inner, next)?;
+        part = with_block(alloc, part, block, look, room, inner)?;
     }
-    Ok(Part { lines, next })
+    Ok(part)
 }
 
-/// Puts the lines of a block after others, and returns the number of the next layout.
+/// The part with the lines of one more block.
 #[cycle(cells)]
-fn put_block(
+fn with_block(
     alloc: Global,
-    lines: &mut List<Line>,
+    part: Part,
     block: &Content,
     look: &Look,
     room: Room,
     inner: &[Layout],
-    next: usize,
-) -> Result<usize, AllocError>
+) -> Result<Part, AllocError>
     requires sound { IsSoundBlock (out-Content block.now) }
-    requires fit { FitsBlockRoom look.now.style room.columns (out-Content block.now) inner.now next }
-    ensures { IfOk result (λ after. ShowsPart look.now room.side room.columns (out-Content block.now) inner.now next after lines.old lines.new) }
+    requires fit { FitsBlockRoom look.now.style room.columns (out-Content block.now) inner.now part.next }
+    ensures { IfOk result (λ after. ShowsPart look.now room.side room.columns (out-Content block.now) inner.now
+        part.next after.next part.lines after.lines) }
 {
+    let Part { mut lines, next } = part;
     match block {
         Content::Para(paragraph) => {
-            put_paragraph(alloc, lines, paragraph, room)?;
-            Ok(next)
+            put_paragraph(alloc, &mut lines, paragraph, room)?;
+            Ok(Part { lines, next })
         }
         Content::Table(table) => {
             let style = look.style;
             let layout = &inner[next];
             let cells = drawn_cells(alloc, table, look, layout)?;
             let page = page_with(alloc, table, style, layout, cells)?;
-            put_page(alloc, lines, page, style, layout)?;
-            Ok(next + 1)
+            put_page(alloc, &mut lines, page, style, layout)?;
+            Ok(Part {
+                lines,
+                next: next + 1,
+            })
         }
     }
 }
@@ -175,7 +179,7 @@ pub fn page_with(
 /// Puts the lines of a nested table's page after others, each as wide as its layout.
 fn put_page(
     alloc: Global,
-    lines: &mut List<Line>,
+    lines: &mut List<TextLine>,
     page: List<List<u8>>,
     style: Style,
     layout: &Layout,
@@ -187,7 +191,7 @@ fn put_page(
     let across = strips(alloc, columns, style.edge(), layout.widths.as_slice())?;
     let width = total_in(across.as_slice(), style.edge());
     for text in page.into_vec() {
-        lines.push(Line { text, width })?;
+        lines.push(TextLine { text, width })?;
     }
     Ok(())
 }

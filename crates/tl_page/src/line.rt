@@ -5,7 +5,7 @@ use tl_sides::Side;
 
 /// A line of a cell's content.
 #[derive(Drop)]
-pub struct Line {
+pub struct TextLine {
     /// Its bytes, in UTF-8.
     pub text: List<u8>,
     /// How many columns of the page it takes.
@@ -31,5 +31,5 @@ pub struct Drawn {
     /// The line of the page on which its room begins, counted from 0.
     pub first: u32,
     /// Its content, from top to bottom.
-    pub lines: List<Line>,
+    pub lines: List<TextLine>,
 }

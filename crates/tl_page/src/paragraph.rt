@@ -3,7 +3,7 @@
 ghost use Rattle.std.specs.Prelude.{◌≡◌, ◌+◌, ◌-◌, ◌*◌, ◌≤◌, ◌++◌, List, length, map, encode_utf8_all, OnOk, IfOk};
 ghost use Rattle.std.specs.List.{All};
 ghost use Rattle.tl_base.specs.Text.{byte_count};
-ghost use Rattle.tl_page.specs.declared.line.Line.{Line as Shown};
+ghost use Rattle.tl_page.specs.declared.line.TextLine.{TextLine as Shown};
 ghost use Rattle.tl_text.specs.Cuttings.{line_width, HasCutting};
 ghost use Rattle.tl_text.specs.Paragraph.{unit_width, atom_size};
 ghost use Rattle.tl_text.specs.Words.{width_of};
@@ -11,7 +11,7 @@ ghost use Rattle.tl_page.specs.Pages.{AreParagraphLines, aligned, indent, line_f
 ghost use Rattle.tl_page.specs.Pictures.{spaces};
 ghost use Rattle.tl_page.specs.inner.Lines.{gap_in_line, ranged};
 
-use crate::line::{Line, Room};
+use crate::line::{Room, TextLine};
 use crate::picture::write_spaces;
 use std::alloc::{AllocError, Global};
 use tl_base::{List, MAX_FILE_BYTES, Text};
@@ -22,7 +22,7 @@ use tl_text::{Atom, Para, TextError, word_width};
 /// of the room.
 pub fn put_paragraph(
     alloc: Global,
-    lines: &mut List<Line>,
+    lines: &mut List<TextLine>,
     paragraph: &Para,
     room: Room,
 ) -> Result<(), AllocError>
@@ -46,7 +46,7 @@ pub fn put_paragraph(
 
 /// The line with the spaces before it that bring it to its side of the room. One that needs none stays
 /// as it is.
-fn aligned(alloc: Global, line: Line, room: Room) -> Result<Line, AllocError>
+fn aligned(alloc: Global, line: TextLine, room: Room) -> Result<TextLine, AllocError>
     ensures { IfOk result (λ moved. moved ≡ aligned room.side room.columns line) }
 {
     let before = indent(room, line.width);
@@ -56,7 +56,7 @@ fn aligned(alloc: Global, line: Line, room: Room) -> Result<Line, AllocError>
     let mut text = List::new(alloc);
     write_spaces(&mut text, before)?;
     text.extend_from_slice(line.text.as_slice())?;
-    Ok(Line {
+    Ok(TextLine {
         text,
         width: before + line.width,
     })
@@ -86,14 +86,14 @@ fn units_of(atoms: &[Atom], line: tl_text::Line) -> &[Atom]
 }
 
 /// The line of these units.
-fn line_of(alloc: Global, units: &[Atom]) -> Result<Line, AllocError>
+fn line_of(alloc: Global, units: &[Atom]) -> Result<TextLine, AllocError>
     requires few { length units.now ≤ MAX_FILE_BYTES }
     requires small { All (λ atom. atom_size atom ≤ MAX_FILE_BYTES) units.now }
     ensures { IfOk result (λ line. line ≡ line_from units.now) }
 {
     let mut text = List::new(alloc);
     let width = write_units(&mut text, units)?;
-    Ok(Line { text, width })
+    Ok(TextLine { text, width })
 }
 
 /// Writes the units of a line, and returns how many columns they take.

@@ -7,7 +7,7 @@ ghost use Rattle.tl_page.specs.Signs.{run};
 ghost use Rattle.tl_page.specs.inner.Drawing.{owner_in, shown};
 
 use crate::corner::Corner;
-use crate::line::{Drawn, Line};
+use crate::line::{Drawn, TextLine};
 use crate::owner::Owner;
 use crate::owners::Owners;
 use crate::strip::Strip;
@@ -91,7 +91,7 @@ fn is_on_line(style: Style, head: Option<u32>, across: &Strip, down: &Strip) -> 
 fn write_filled(
     line: &mut List<u8>,
     columns: u32,
-    lines: &[Line],
+    lines: &[TextLine],
     place: u64,
 ) -> Result<(), AllocError>
     ensures { OnOk result (line.new ≡ line.old ++ filled columns (slice_get lines.now place)) }

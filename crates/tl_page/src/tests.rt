@@ -1,6 +1,6 @@
 //! Pages drawn by hand.
 
-use crate::line::{Drawn, Line, Room};
+use crate::line::{Drawn, Room, TextLine};
 use crate::owners::Owners;
 use crate::paragraph::put_paragraph;
 use crate::picture::{Drawing, draw};
@@ -22,7 +22,7 @@ fn cell(
     text: &str,
 ) -> Result<Drawn, AllocError> {
     let mut lines = List::new(alloc);
-    lines.push(Line {
+    lines.push(TextLine {
         text: List::from_slice(alloc, text.as_bytes())?,
         width: 1,
     })?;

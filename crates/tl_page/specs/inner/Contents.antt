@@ -14,7 +14,7 @@ use Rattle.tl_table.specs.Heads.{head_row}
 use Rattle.tl_table.specs.Layouts.{OpenLayout, Share, Fits, FitsWithin, FitsShare, FitsRoom}
 use Rattle.tl_table.specs.Sound.{places_of}
 use Rattle.tl_page.specs.declared.line.Drawn.{Drawn}
-use Rattle.tl_page.specs.declared.line.Line.{Line}
+use Rattle.tl_page.specs.declared.line.TextLine.{TextLine}
 use Rattle.tl_page.specs.Corners.{owner_of}
 use Rattle.tl_page.specs.declared.look.Look.{Look}
 use Rattle.tl_page.specs.Pages.{Content, ShowsBlock, ShowsCell, ShowsCellOf, ShowsWithin, grid_of}
@@ -53,7 +53,7 @@ pub record FitsCellRoom (style : Style) (w : ℕ) (cell : OpenCell) (inner : Lis
 
 -- the block's lines come after `before`, and its layouts stand from `next` on and before `after`
 pub record ShowsPart (look : Look) (side : Side) (w : ℕ) (block : OpenContent) (inner : List Layout) (next after : ℕ)
-    (before lines : List Line) : Type 0 where
+    (before lines : List TextLine) : Type 0 where
   pub depth : ℕ
   pub content : Content
   pub shows : ShowsBlock (ShowsWithin depth look) look side w block content
@@ -62,7 +62,7 @@ pub record ShowsPart (look : Look) (side : Side) (w : ℕ) (block : OpenContent)
 
 -- the cell's lines, and its layouts
 pub record ShowsParts (look : Look) (side : Side) (w : ℕ) (cell : OpenCell) (inner : List Layout) (next after : ℕ)
-    (lines : List Line) : Type 0 where
+    (lines : List TextLine) : Type 0 where
   pub depth : ℕ
   pub content : Content
   pub shows : ShowsCell (ShowsWithin depth look) look side w cell content

@@ -22,17 +22,17 @@ loop-row-preserved c =
     let (more, joined, are) = c.in_ok-cells.ensures in
     let before = flat_map (λ (one : ℕ × Fields). placed_in one.0 one.1) (take row (enumerate_from 0 all)) in
     let ats = before ++ placed_in row c.index-records-row.result in
-    let both : AreCellsOf c.args.head c.args.least.now c.args.breaking ats (c.loop-row.cells ++ more) =
-    AllZip-append (λ (one : PlacedField) (cell : TableCell). IsFieldCell c.args.head c.args.least.now c.args.breaking one
+    let both : AreCellsOf c.args.form.now.head c.args.form.now.least.now c.args.form.now.breaking ats (c.loop-row.cells ++ more) =
+    AllZip-append (λ (one : PlacedField) (cell : TableCell). IsFieldCell c.args.form.now.head c.args.form.now.least.now c.args.form.now.breaking one
     (out-TableCell cell)) before (placed_in row c.index-records-row.result) c.loop-row.cells more c.loop-row.invariant are in
-    let now = subst (λ (cells : List TableCell). AreCellsOf c.args.head c.args.least.now c.args.breaking ats cells)
+    let now = subst (λ (cells : List TableCell). AreCellsOf c.args.form.now.head c.args.form.now.least.now c.args.form.now.breaking ats cells)
     (sym joined) both in
-    subst (λ (places : List PlacedField). AreCellsOf c.args.head c.args.least.now c.args.breaking places c.in_ok-cells.cells)
+    subst (λ (places : List PlacedField). AreCellsOf c.args.form.now.head c.args.form.now.least.now c.args.form.now.breaking places c.in_ok-cells.cells)
     (ap (λ (fields : Fields). before ++ placed_in row fields) c.index-records-row.is
     ∙ sym (placed_more all row c.index-records-row.result c.loop-row-test.true)) now
 
 pub returns : goal.returns
 returns c =
-    subst (λ (ones : List (ℕ × Fields)). AreCellsOf c.args.head c.args.least.now c.args.breaking
+    subst (λ (ones : List (ℕ × Fields)). AreCellsOf c.args.form.now.head c.args.form.now.least.now c.args.form.now.breaking
     (flat_map (λ (one : ℕ × Fields). placed_in one.0 one.1) ones) c.loop-row.cells)
     (numbered_all c.args.records.now c.loop-row.row c.loop-row-test.false) c.loop-row.invariant

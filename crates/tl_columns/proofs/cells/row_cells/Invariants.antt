@@ -6,4 +6,4 @@ use Rattle.tl_columns.proofs.cells.row_cells.Given as goal
 
 abbrev pub invariant-loop-column : goal.invariant-loop-column
 invariant-loop-column l = (more : List TableCell) × (l.cells ≡ l.fn.cells ++ more)
-    × AreCellsOf l.head l.least l.breaking (take l.column (placed_in l.row l.fields)) more
+    × AreCellsOf l.form.head l.form.least.now l.form.breaking (take l.column (placed_in l.row l.fields)) more

@@ -36,8 +36,8 @@ cell_part-loop-block-init t c =
     c.args.next) (sym (c.from_vec-lines.ensures ∙ c.in_ok-with_capacity.ensures.items))
     (blocks-none c.args.look.now c.args.room.side c.args.room.columns (out-TableCell c.args.cell.now) c.args.inner.now c.args.next c.requires.fit)
 
-pub cell_part-put_block-requires : goal.cell_part-put_block-requires
-cell_part-put_block-requires t c =
+pub cell_part-with_block-requires : goal.cell_part-with_block-requires
+cell_part-with_block-requires t c =
     let blocks = (out-TableCell c.args.cell.now).blocks in
     let within : c.loop-block.block-index < length blocks =
     subst (λ items. c.loop-block.block-index < length items) c.as_slice-block-items.ensures c.loop-block-test.true in
@@ -48,8 +48,8 @@ cell_part-put_block-requires t c =
       (
         at_item (λ block. IsSoundBlock (out-Content block)) blocks c.loop-block.block-index c.block-item.result
             (sound_blocks c.args.cell.now c.requires.sound) within is,
-        block-next c.args.look.now c.args.room.side c.args.room.columns blocks c.args.inner.now c.args.next c.loop-block.block-index c.loop-block.next
-            c.loop-block.lines
+        block-next c.args.look.now c.args.room.side c.args.room.columns blocks c.args.inner.now c.args.next c.loop-block.block-index c.loop-block.part.next
+            c.loop-block.part.lines
             c.block-item.result
             c.requires.fit.narrow within is c.loop-block.invariant,
       ),
@@ -58,72 +58,72 @@ cell_part-put_block-requires t c =
 pub cell_part-loop-block-preserved : goal.cell_part-loop-block-preserved
 cell_part-loop-block-preserved t c =
     let blocks = (out-TableCell c.args.cell.now).blocks in
-    blocks-more c.args.look.now c.args.room.side c.args.room.columns blocks c.args.inner.now c.args.next c.loop-block.block-index c.loop-block.next
-    c.in_ok-next.next c.loop-block.lines
-    c.put_block.new.lines c.block-item.result
+    blocks-more c.args.look.now c.args.room.side c.args.room.columns blocks c.args.inner.now c.args.next c.loop-block.block-index c.loop-block.part.next
+    c.in_ok-part.part.next c.loop-block.part.lines
+    c.in_ok-part.part.lines c.block-item.result
     (subst (λ items. c.loop-block.block-index < length items) c.as_slice-block-items.ensures c.loop-block-test.true)
     (subst (λ items. c.block-item.result ≡ get_or items c.loop-block.block-index c.block-item.result)
     c.as_slice-block-items.ensures c.block-item.is)
-    c.loop-block.invariant c.in_ok-next.ensures
+    c.loop-block.invariant c.in_ok-part.ensures
 
 pub cell_part-returns : goal.cell_part-returns
 cell_part-returns t c =
     blocks-all c.args.look.now c.args.room.side c.args.room.columns (out-TableCell c.args.cell.now)
-    c.args.inner.now c.args.next c.loop-block.block-index c.loop-block.next
-    c.loop-block.lines
+    c.args.inner.now c.args.next c.loop-block.block-index c.loop-block.part.next
+    c.loop-block.part.lines
     (take_all c.loop-block.block-index (out-TableCell c.args.cell.now).blocks
     (subst (λ items. length items ≤ c.loop-block.block-index) c.as_slice-block-items.ensures c.loop-block-test.false))
     c.loop-block.invariant
 
-pub put_block-put_page-requires : goal.put_block-put_page-requires
-put_block-put_page-requires t c =
+pub with_block-put_page-requires : goal.with_block-put_page-requires
+with_block-put_page-requires t c =
     let box = c.in-Table.table in
     let open_block = ap out-Content c.in-Table.is ∙ outs-Table box in
-    let fit = subst (λ block. FitsBlockRoom c.args.look.now.style c.args.room.columns block c.args.inner.now c.args.next)
+    let fit = subst (λ block. FitsBlockRoom c.args.look.now.style c.args.room.columns block c.args.inner.now c.args.part.next)
     open_block c.requires.fit in
     let sound = subst IsSoundBlock open_block c.requires.sound in
     let layout = c.index-inner-next.result in
     small_widths c.args.look.now.style (out-Table box.value) (out-Layout layout) (sound_table box.value sound.0)
-    (fitting c.args.look.now.style box.value layout (nested_fits c.args.look.now.style c.args.room.columns box.value c.args.inner.now c.args.next layout
-    (nested_given c.args.look.now.style c.args.room.columns box c.args.inner.now c.args.next fit) c.index-inner-next.is))
+    (fitting c.args.look.now.style box.value layout (nested_fits c.args.look.now.style c.args.room.columns box.value c.args.inner.now c.args.part.next layout
+    (nested_given c.args.look.now.style c.args.room.columns box c.args.inner.now c.args.part.next fit) c.index-inner-next.is))
 
-pub put_block-overflow_add-result : goal.put_block-overflow_add-result
-put_block-overflow_add-result t c =
+pub with_block-overflow_add-result : goal.with_block-overflow_add-result
+with_block-overflow_add-result t c =
     let box = c.in-Table.table in
     let open_block = ap out-Content c.in-Table.is ∙ outs-Table box in
-    let fit = subst (λ block. FitsBlockRoom c.args.look.now.style c.args.room.columns block c.args.inner.now c.args.next)
+    let fit = subst (λ block. FitsBlockRoom c.args.look.now.style c.args.room.columns block c.args.inner.now c.args.part.next)
     open_block c.requires.fit in
     omega (
       arith,
-      nested_within c.args.look.now.style c.args.room.columns box.value c.args.inner.now c.args.next
-          (nested_given c.args.look.now.style c.args.room.columns box c.args.inner.now c.args.next fit),
+      nested_within c.args.look.now.style c.args.room.columns box.value c.args.inner.now c.args.part.next
+          (nested_given c.args.look.now.style c.args.room.columns box c.args.inner.now c.args.part.next fit),
     )
 
-pub put_block-returns-in_ok-put_paragraph-in-Para : goal.put_block-returns-in_ok-put_paragraph-in-Para
-put_block-returns-in_ok-put_paragraph-in-Para t c =
+pub with_block-returns-in_ok-put_paragraph-in-Para : goal.with_block-returns-in_ok-put_paragraph-in-Para
+with_block-returns-in_ok-put_paragraph-in-Para t c =
     let put = c.in_ok-put_paragraph-in-Para.ensures in
-    subst (λ block. ShowsPart c.args.look.now c.args.room.side c.args.room.columns block c.args.inner.now c.args.next c.args.next c.args.lines.now
+    subst (λ block. ShowsPart c.args.look.now c.args.room.side c.args.room.columns block c.args.inner.now c.args.part.next c.args.part.next c.args.part.lines
     c.put_paragraph.new.lines)
     (sym (ap out-Content c.in-Para.is ∙ outs-Para c.in-Para.paragraph))
-    (paragraph_shown c.args.look.now c.args.room.side c.args.room.columns c.in-Para.paragraph c.args.inner.now c.args.next c.args.lines.now
+    (paragraph_shown c.args.look.now c.args.room.side c.args.room.columns c.in-Para.paragraph c.args.inner.now c.args.part.next c.args.part.lines
     c.put_paragraph.new.lines put.0 put.1 put.2)
 
-pub put_block-returns-in_ok-put_page-in-Table : goal.put_block-returns-in_ok-put_page-in-Table
-put_block-returns-in_ok-put_page-in-Table t c =
+pub with_block-returns-in_ok-put_page-in-Table : goal.with_block-returns-in_ok-put_page-in-Table
+with_block-returns-in_ok-put_page-in-Table t c =
     let box = c.in-Table.table in
     let open_block = ap out-Content c.in-Table.is ∙ outs-Table box in
-    let fit = subst (λ block. FitsBlockRoom c.args.look.now.style c.args.room.columns block c.args.inner.now c.args.next)
+    let fit = subst (λ block. FitsBlockRoom c.args.look.now.style c.args.room.columns block c.args.inner.now c.args.part.next)
     open_block c.requires.fit in
     let layout = c.index-inner-next.result in
     let cells = c.in_ok-cells-in-Table.cells in
     let page = c.in_ok-page-in-Table.page in
-    subst (λ block. ShowsPart c.args.look.now c.args.room.side c.args.room.columns block c.args.inner.now c.args.next (c.args.next + 1)
-    c.args.lines.now c.put_page.new.lines)
+    subst (λ block. ShowsPart c.args.look.now c.args.room.side c.args.room.columns block c.args.inner.now c.args.part.next (c.args.part.next + 1)
+    c.args.part.lines c.put_page.new.lines)
     (sym open_block)
-    (nested_shown c.args.look.now c.args.room.side c.args.room.columns box c.args.inner.now c.args.next layout cells page c.args.lines.now
+    (nested_shown c.args.look.now c.args.room.side c.args.room.columns box c.args.inner.now c.args.part.next layout cells page c.args.part.lines
     c.put_page.new.lines c.index-inner-next.is
-    (nested_within c.args.look.now.style c.args.room.columns box.value c.args.inner.now c.args.next
-    (nested_given c.args.look.now.style c.args.room.columns box c.args.inner.now c.args.next fit))
+    (nested_within c.args.look.now.style c.args.room.columns box.value c.args.inner.now c.args.part.next
+    (nested_given c.args.look.now.style c.args.room.columns box c.args.inner.now c.args.part.next fit))
     (subst (λ table. ShowsCells c.args.look.now table layout cells) c.deref.ensures c.in_ok-cells-in-Table.ensures)
     (subst (λ table. page ≡ lines_of (picture_with c.args.look.now.style (out-Table table) (out-Layout layout) cells))
     c.deref-in-Table.ensures
