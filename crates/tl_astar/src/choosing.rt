@@ -46,7 +46,7 @@ impl Search {
         let ranges = self.arena.zones()[zone as usize].ranges();
         let sight = Sight::of_zone(
             self.alloc,
-            &self.shape,
+            &self.arrangement,
             &self.whole,
             ranges,
             self.same_steps,
@@ -57,7 +57,7 @@ impl Search {
             return Ok(None);
         };
         let height = self.arena.best().height;
-        let place = best_place(self.alloc, &self.shape, &sight, height)?;
+        let place = best_place(self.alloc, &self.arrangement, &sight, height)?;
         let ranges = self.arena.zones()[zone as usize].ranges();
         Ok(Some(cut_at(ranges, place, first)))
     }
@@ -70,7 +70,7 @@ impl Search {
         ensures search { IsSearchOf problem.now self.new }
         ensures lowered { self.new.arena.best.height ≤ self.old.arena.best.height }
     {
-        let places = column_places(self.alloc, &self.shape, &sight.wanted)?;
+        let places = column_places(self.alloc, &self.arrangement, &sight.wanted)?;
         self.offer(problem, &places)
     }
 
@@ -87,7 +87,7 @@ impl Search {
             return Ok(());
         }
         self.next_greedy = self.next_greedy.saturating_mul(4).max(1);
-        let places = greedy_places(self.alloc, &self.shape, sight)?;
+        let places = greedy_places(self.alloc, &self.arrangement, sight)?;
         self.offer(problem, &places)
     }
 
@@ -99,7 +99,7 @@ impl Search {
         ensures search { IsSearchOf problem.now self.new }
         ensures lowered { self.new.arena.best.height ≤ self.old.arena.best.height }
     {
-        let widths = widths_between(self.alloc, &self.shape, places)?;
+        let widths = widths_between(self.alloc, &self.arrangement, places)?;
         let found = problem.place(&widths)?;
         let Some(placed) = found else {
             return Ok(());

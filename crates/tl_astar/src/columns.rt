@@ -1,18 +1,18 @@
 //! Columns at the least places that give each span a room.
 
-use crate::shape::{Shape, number_at, raise};
+use crate::arrangement::{Arrangement, number_at, raise};
 use std::alloc::{AllocError, Global};
 
 /// The least places of columns, each with a gap before the next, that give each span at least this room.
 pub(crate) fn column_places(
     alloc: Global,
-    shape: &Shape,
+    arrangement: &Arrangement,
     rooms: &[u32],
 ) -> Result<Vec<u32>, AllocError> {
-    let gap = shape.spacing.gap;
-    let mut places = vec![in alloc; 0; (shape.cols as usize).saturating_add(1)]?;
+    let gap = arrangement.spacing.gap;
+    let mut places = vec![in alloc; 0; (arrangement.cols as usize).saturating_add(1)]?;
     let mut column = 0u32;
-    for (number, span) in shape.spans.iter().enumerate() {
+    for (number, span) in arrangement.spans.iter().enumerate() {
         // Columns that begin before the span come first.
         for before in column..span.left {
             step(&mut places, before, gap);
@@ -23,7 +23,7 @@ pub(crate) fn column_places(
             .saturating_add(gap);
         raise(&mut places, span.right as usize, end);
     }
-    for last in column..shape.cols {
+    for last in column..arrangement.cols {
         step(&mut places, last, gap);
     }
     Ok(places)
@@ -36,20 +36,20 @@ fn step(places: &mut [u32], column: u32, gap: u32) {
 }
 
 /// Whether columns at these places are within the page.
-pub(crate) fn is_on_page(shape: &Shape, places: &[u32]) -> bool {
-    let end = number_at(places, shape.cols as usize).saturating_sub(shape.spacing.gap);
-    shape.cols == 0 || end.saturating_add(shape.spacing.edges) <= shape.width
+pub(crate) fn is_on_page(arrangement: &Arrangement, places: &[u32]) -> bool {
+    let end = number_at(places, arrangement.cols as usize).saturating_sub(arrangement.spacing.gap);
+    arrangement.cols == 0 || end.saturating_add(arrangement.spacing.edges) <= arrangement.width
 }
 
 /// The widths of columns at these places.
 pub(crate) fn widths_between(
     alloc: Global,
-    shape: &Shape,
+    arrangement: &Arrangement,
     places: &[u32],
 ) -> Result<Vec<u32>, AllocError> {
-    let gap = shape.spacing.gap;
+    let gap = arrangement.spacing.gap;
     let mut widths = Vec::new(alloc);
-    for column in 0..shape.cols as usize {
+    for column in 0..arrangement.cols as usize {
         let next = number_at(places, column.saturating_add(1));
         let here = number_at(places, column).saturating_add(gap);
         widths.push(next.saturating_sub(here))?;
@@ -60,15 +60,15 @@ pub(crate) fn widths_between(
 /// The spans of a longest path to the end of the columns at these places, which these rooms make.
 pub(crate) fn longest_path(
     alloc: Global,
-    shape: &Shape,
+    arrangement: &Arrangement,
     rooms: &[u32],
     places: &[u32],
 ) -> Result<Vec<usize>, AllocError> {
-    let gap = shape.spacing.gap;
+    let gap = arrangement.spacing.gap;
     let mut path = Vec::new(alloc);
-    let mut end = shape.cols;
-    for number in (0..shape.spans.len()).rev() {
-        let span = shape.spans[number];
+    let mut end = arrangement.cols;
+    for number in (0..arrangement.spans.len()).rev() {
+        let span = arrangement.spans[number];
         end = past_steps(places, end, gap);
         let reached = number_at(places, span.left as usize)
             .saturating_add(number_at(rooms, number))

@@ -1,8 +1,8 @@
 //! Widths for a low placement: those that the bound of a zone wants, made narrower where that costs least.
 
+use crate::arrangement::{Arrangement, class_of, number_at, raise};
 use crate::columns::{column_places, is_on_page, longest_path};
 use crate::rises::{Rise, first_above, raise_heights, room_past};
-use crate::shape::{Shape, class_of, number_at, raise};
 use crate::sight::{Sight, lines_of_strips};
 use std::alloc::{AllocError, Global};
 
@@ -36,26 +36,26 @@ const NO_OFFER: Offer = Offer {
 /// and no span wants more than they leave.
 pub(crate) fn greedy_places(
     alloc: Global,
-    shape: &Shape,
+    arrangement: &Arrangement,
     sight: &Sight,
 ) -> Result<Vec<u32>, AllocError> {
     let mut rooms = Vec::from_slice(alloc, &sight.wanted)?;
     let mut heights = Vec::from_slice(alloc, &sight.heights)?;
-    let mut lines = lines_of_strips(alloc, shape, &heights)?;
-    let mut places = column_places(alloc, shape, &rooms)?;
-    let mut offers = vec![in alloc; NO_OFFER; shape.spans.len()]?;
-    let mut met = vec![in alloc; 0; shape.spans.len()]?;
-    for _ in 0..step_count(shape) {
-        if is_on_page(shape, &places) {
+    let mut lines = lines_of_strips(alloc, arrangement, &heights)?;
+    let mut places = column_places(alloc, arrangement, &rooms)?;
+    let mut offers = vec![in alloc; NO_OFFER; arrangement.spans.len()]?;
+    let mut met = vec![in alloc; 0; arrangement.spans.len()]?;
+    for _ in 0..step_count(arrangement) {
+        if is_on_page(arrangement, &places) {
             return Ok(places);
         }
-        let path = longest_path(alloc, shape, &rooms, &places)?;
+        let path = longest_path(alloc, arrangement, &rooms, &places)?;
         for &span in &path {
             let room = number_at(&rooms, span);
             let first = met.get(span).copied().unwrap_or(0);
             renew(
                 alloc,
-                shape,
+                arrangement,
                 sight,
                 (span, room, first),
                 &lines,
@@ -66,9 +66,9 @@ pub(crate) fn greedy_places(
             return Ok(places);
         };
         raise_heights(sight.rises.of_span(step.span), step.room, &mut heights);
-        lines = lines_of_strips(alloc, shape, &heights)?;
-        take_wanted(shape, sight, &lines, &mut met, &mut rooms);
-        places = column_places(alloc, shape, &rooms)?;
+        lines = lines_of_strips(alloc, arrangement, &heights)?;
+        take_wanted(arrangement, sight, &lines, &mut met, &mut rooms);
+        places = column_places(alloc, arrangement, &rooms)?;
     }
     Ok(places)
 }
@@ -76,10 +76,16 @@ pub(crate) fn greedy_places(
 /// Gives each span the room that it wants where the strips have so many lines. The first `met` rises of a span,
 /// which are the widest, were not above the lines before. Rows only become higher, so they still are not, but
 /// where a tall strip had stretched a row, that may lose its lines to another one.
-fn take_wanted(shape: &Shape, sight: &Sight, lines: &[u32], met: &mut [usize], rooms: &mut [u32]) {
+fn take_wanted(
+    arrangement: &Arrangement,
+    sight: &Sight,
+    lines: &[u32],
+    met: &mut [usize],
+    rooms: &mut [u32],
+) {
     for span in 0..rooms.len().min(met.len()) {
         let rises = sight.rises.of_span(span);
-        let first = if shape.has_tall_strips() {
+        let first = if arrangement.has_tall_strips() {
             0
         } else {
             met[span]
@@ -90,9 +96,9 @@ fn take_wanted(shape: &Shape, sight: &Sight, lines: &[u32], met: &mut [usize], r
 }
 
 /// The number of all classes, which is more than steps can be taken.
-fn step_count(shape: &Shape) -> usize {
+fn step_count(arrangement: &Arrangement) -> usize {
     let mut count = 0usize;
-    for classes in &shape.classes {
+    for classes in &arrangement.classes {
         count = count.saturating_add(classes.len());
     }
     count
@@ -102,7 +108,7 @@ fn step_count(shape: &Shape) -> usize {
 /// given with its room, and with the number of the first of its rises that may be above the lines.
 fn renew(
     alloc: Global,
-    shape: &Shape,
+    arrangement: &Arrangement,
     sight: &Sight,
     asked: (usize, u32, usize),
     lines: &[u32],
@@ -111,7 +117,7 @@ fn renew(
     let (span, room, _) = asked;
     if let Some(offer) = offers.get_mut(span) {
         if offer.room != room {
-            let step = step_of(alloc, shape, sight, asked, lines)?;
+            let step = step_of(alloc, arrangement, sight, asked, lines)?;
             *offer = Offer { room, step };
         }
     }
@@ -137,13 +143,13 @@ fn cheapest(path: &[usize], offers: &[Offer]) -> Option<Step> {
 /// lines.
 fn step_of(
     alloc: Global,
-    shape: &Shape,
+    arrangement: &Arrangement,
     sight: &Sight,
     asked: (usize, u32, usize),
     lines: &[u32],
 ) -> Result<Option<Step>, AllocError> {
     let (span, room, first) = asked;
-    let classes = shape.classes_of(span);
+    let classes = arrangement.classes_of(span);
     let least = number_at(&sight.least, span);
     let growths = growths_of(alloc, classes, sight.rises.of_span(span), first, lines)?;
     let mut best: Option<Step> = None;

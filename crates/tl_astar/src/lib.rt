@@ -4,6 +4,7 @@
 #![tactic(auto)]
 
 mod agreement;
+mod arrangement;
 mod best;
 mod choosing;
 mod columns;
@@ -14,7 +15,6 @@ mod opens;
 mod parts;
 mod rises;
 mod search;
-mod shape;
 mod sight;
 mod spread;
 mod whole;

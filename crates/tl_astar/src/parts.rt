@@ -3,8 +3,8 @@
 ghost use Rattle.std.specs.Prelude.{◌≡◌, ◌≤◌, ℕ, length, slice_index, EachIndex, OnOk};
 ghost use Rattle.tl_astar.specs.inner.Rises.{AreHighEnough, Wants, rises_of};
 
+use crate::arrangement::{Arrangement, class_of, number_at};
 use crate::columns::{column_places, is_on_page};
-use crate::shape::{Shape, class_of, number_at};
 use crate::sight::{Sight, total_height};
 use crate::spread::{signed, unsigned};
 use std::alloc::{AllocError, Global};
@@ -35,17 +35,17 @@ impl Part {
     /// make the strips at these rooms.
     fn fill(
         &mut self,
-        shape: &Shape,
+        arrangement: &Arrangement,
         sight: &Sight,
         limit: (u32, u32, i32),
     ) -> Result<(), AllocError>
-        ensures each_span { OnOk result (EachIndex shape.now.spans.items (λ span.
+        ensures each_span { OnOk result (EachIndex arrangement.now.spans.items (λ span.
             AreHighEnough (Wants (rises_of sight.now.rises span) (slice_index self.new.rooms.items span))
             self.new.heights.items)) }
         ensures no_lower { OnOk result ((strip : ℕ) →
             slice_index sight.now.heights.items strip ≤ slice_index self.new.heights.items strip) }
     {
-        self.find_rooms(shape, sight, limit)?;
+        self.find_rooms(arrangement, sight, limit)?;
         self.heights.clear();
         self.heights.extend_from_slice(&sight.heights)?;
         sight.rises.raise_all(&self.rooms, &mut self.heights);
@@ -56,20 +56,20 @@ impl Part {
     /// strip higher at any room, so it gets 0.
     fn find_rooms(
         &mut self,
-        shape: &Shape,
+        arrangement: &Arrangement,
         sight: &Sight,
         limit: (u32, u32, i32),
     ) -> Result<(), AllocError>
-        ensures { OnOk result (length self.new.rooms.items ≡ length shape.now.spans.items) }
+        ensures { OnOk result (length self.new.rooms.items ≡ length arrangement.now.spans.items) }
     {
         let (a, b, most) = limit;
-        let gap = signed(shape.spacing.gap);
+        let gap = signed(arrangement.spacing.gap);
         self.rooms.clear();
-        for number in 0..shape.spans.len() {
+        for number in 0..arrangement.spans.len() {
             if sight.rises.of_span(number).is_empty() {
                 self.rooms.push(0)?;
             } else {
-                let span = &shape.spans[number];
+                let span = &arrangement.spans[number];
                 let apart = sight.spread.limited(a, b, most, span.left, span.right);
                 self.rooms.push(unsigned(apart.saturating_sub(gap)))?;
             }
@@ -83,23 +83,23 @@ impl Part {
 /// span has the class of its greatest room alone.
 pub(crate) fn best_place(
     alloc: Global,
-    shape: &Shape,
+    arrangement: &Arrangement,
     sight: &Sight,
     height: u32,
 ) -> Result<Option<Place>, AllocError> {
-    let rooms = balanced_rooms(alloc, shape, sight)?;
+    let rooms = balanced_rooms(alloc, arrangement, sight)?;
     let mut part = Part {
         rooms: Vec::new(alloc),
         heights: Vec::new(alloc),
     };
     let mut best: Option<Place> = None;
-    for span in 0..shape.spans.len() {
-        let classes = shape.classes_of(span);
+    for span in 0..arrangement.spans.len() {
+        let classes = arrangement.classes_of(span);
         let first = class_of(classes, number_at(&sight.least, span));
         let last = class_of(classes, number_at(&sight.most, span));
         if first < last {
             let class = class_of(classes, number_at(&rooms, span)).clamp(first, last - 1);
-            let place = place_at(alloc, shape, sight, (span, class), height, &mut part)?;
+            let place = place_at(alloc, arrangement, sight, (span, class), height, &mut part)?;
             if is_better(&place, &best) {
                 best = Some(place);
             }
@@ -121,15 +121,15 @@ fn is_better(place: &Place, best: &Option<Place>) -> bool {
 /// The cut of the span after the class, with the bounds of its parts. What `part` holds is lost.
 fn place_at(
     alloc: Global,
-    shape: &Shape,
+    arrangement: &Arrangement,
     sight: &Sight,
     cut: (usize, usize),
     height: u32,
     part: &mut Part,
 ) -> Result<Place, AllocError> {
     let (span, class) = cut;
-    let gap = signed(shape.spacing.gap);
-    let Some(&Span { left, right }) = shape.spans.get(span) else {
+    let gap = signed(arrangement.spacing.gap);
+    let Some(&Span { left, right }) = arrangement.spans.get(span) else {
         return Ok(Place {
             span,
             class,
@@ -137,11 +137,18 @@ fn place_at(
             lesser: 0,
         });
     };
-    let begins = signed(number_at(shape.classes_of(span), class.saturating_add(1)));
+    let begins = signed(number_at(arrangement.classes_of(span), class.saturating_add(1)));
     let narrow = begins.saturating_sub(1).saturating_add(gap);
     let wide = begins.saturating_add(gap).saturating_neg();
-    let lower = part_bound(alloc, shape, sight, (left, right, narrow), height, part)?;
-    let upper = part_bound(alloc, shape, sight, (right, left, wide), height, part)?;
+    let lower = part_bound(
+        alloc,
+        arrangement,
+        sight,
+        (left, right, narrow),
+        height,
+        part,
+    )?;
+    let upper = part_bound(alloc, arrangement, sight, (right, left, wide), height, part)?;
     Ok(Place {
         span,
         class,
@@ -154,7 +161,7 @@ fn place_at(
 /// part without widths counts. What `part` holds is lost.
 fn part_bound(
     alloc: Global,
-    shape: &Shape,
+    arrangement: &Arrangement,
     sight: &Sight,
     limit: (u32, u32, i32),
     height: u32,
@@ -164,39 +171,43 @@ fn part_bound(
     if sight.spread.at(b, a).saturating_add(most) < 0 {
         return Ok(height);
     }
-    part.fill(shape, sight, limit)?;
-    let bound = total_height(alloc, shape, &part.heights)?;
+    part.fill(arrangement, sight, limit)?;
+    let bound = total_height(alloc, arrangement, &part.heights)?;
     Ok(bound.min(height))
 }
 
 /// Rooms as far from the least to those that are wanted as the page can hold for all spans, in 64ths.
-fn balanced_rooms(alloc: Global, shape: &Shape, sight: &Sight) -> Result<Vec<u32>, AllocError> {
+fn balanced_rooms(
+    alloc: Global,
+    arrangement: &Arrangement,
+    sight: &Sight,
+) -> Result<Vec<u32>, AllocError> {
     // The page holds the least rooms, and no rooms that are greater than some that it does not hold.
     let (mut held, mut past) = (0u32, 65u32);
     for _ in 0..7 {
         let part = held.saturating_add(past) / 2;
         if held < part && part < past {
-            let rooms = rooms_between(alloc, shape, sight, part)?;
-            let places = column_places(alloc, shape, &rooms)?;
-            if is_on_page(shape, &places) {
+            let rooms = rooms_between(alloc, arrangement, sight, part)?;
+            let places = column_places(alloc, arrangement, &rooms)?;
+            if is_on_page(arrangement, &places) {
                 held = part;
             } else {
                 past = part;
             }
         }
     }
-    rooms_between(alloc, shape, sight, held)
+    rooms_between(alloc, arrangement, sight, held)
 }
 
 /// The least rooms with this many 64ths of what lacks to those that are wanted.
 fn rooms_between(
     alloc: Global,
-    shape: &Shape,
+    arrangement: &Arrangement,
     sight: &Sight,
     part: u32,
 ) -> Result<Vec<u32>, AllocError> {
     let mut rooms = Vec::new(alloc);
-    for span in 0..shape.spans.len() {
+    for span in 0..arrangement.spans.len() {
         let least = number_at(&sight.least, span);
         let lacking = number_at(&sight.wanted, span).saturating_sub(least);
         rooms.push(least.saturating_add(lacking.saturating_mul(part) / 64))?;

@@ -3,7 +3,7 @@
 ghost use Rattle.std.specs.Prelude.{◌≡◌, ◌≤◌, ℕ, length, slice_index, EachIndex, SomeIndex, OnOk};
 ghost use Rattle.tl_astar.specs.inner.Rises.{AddsRises, AreHighEnough, AreNoHigher, Raises, Wants, rises_of};
 
-use crate::shape::{Shape, number_at, raise};
+use crate::arrangement::{Arrangement, number_at, raise};
 use std::alloc::{AllocError, Global};
 use std::cmp::Reverse;
 use tl_problem::Cell;
@@ -30,16 +30,16 @@ impl Rises {
     /// A cell that decides no row at any of these rooms has none.
     pub(crate) fn of_cells(
         alloc: Global,
-        shape: &Shape,
+        arrangement: &Arrangement,
         cells: &[Cell],
         rooms: (&[u32], &[u32]),
         heights: &[u32],
     ) -> Result<Rises, AllocError> {
         let mut rises = Rises::none(alloc);
         let (least, most) = rooms;
-        for span in 0..shape.spans.len() {
+        for span in 0..arrangement.spans.len() {
             let room = (number_at(least, span), number_at(most, span));
-            let found = rises_of_span(alloc, shape, cells, span, room, heights)?;
+            let found = rises_of_span(alloc, arrangement, cells, span, room, heights)?;
             rises.all.extend_from_slice(&found)?;
             rises.ends.push(rises.all.len())?;
         }
@@ -160,15 +160,15 @@ fn add_within(
 /// The rises of the cells of a span, the widest first.
 fn rises_of_span(
     alloc: Global,
-    shape: &Shape,
+    arrangement: &Arrangement,
     cells: &[Cell],
     span: usize,
     room: (u32, u32),
     heights: &[u32],
 ) -> Result<Vec<Rise>, AllocError> {
     let mut rises = Vec::new(alloc);
-    for &number in shape.cells_of(span) {
-        if let (Some(cell), Some(&strip)) = (cells.get(number), shape.strip_of.get(number)) {
+    for &number in arrangement.cells_of(span) {
+        if let (Some(cell), Some(&strip)) = (cells.get(number), arrangement.strip_of.get(number)) {
             add_rises(cell, strip, room, number_at(heights, strip), &mut rises)?;
         }
     }

@@ -17,8 +17,8 @@ ghost use Rattle.tl_astar.specs.inner.Frontier.{HasAreaBelow, IsNeededCut, IsUnd
 ghost use Rattle.tl_astar.specs.inner.Searches.{AreLeft, IsSearchOf, open_zones};
 
 use crate::agreement::have_same_steps;
+use crate::arrangement::Arrangement;
 use crate::opens::OpenZones;
-use crate::shape::Shape;
 use crate::whole::Whole;
 use std::alloc::{AllocError, Global};
 use tl_base::MAX_BUDGET;
@@ -33,7 +33,7 @@ pub(crate) struct Search {
     pub(crate) opens: OpenZones,
     /// Whether each cell has the same steps by `low` and by `high`: only then an area bound closes a zone.
     pub(crate) same_steps: bool,
-    pub(crate) shape: Shape,
+    pub(crate) arrangement: Arrangement,
     pub(crate) whole: Whole,
     /// At how many cuts a low placement is looked for again.
     pub(crate) next_greedy: u32,
@@ -46,7 +46,7 @@ impl Drop for Search {
             arena: _arena,
             opens: _opens,
             same_steps: _same_steps,
-            shape: _shape,
+            arrangement: _shape,
             whole: _whole,
             next_greedy: _next_greedy,
         } = self;
@@ -62,15 +62,15 @@ impl Search {
         ensures opening { IfOk result (λ search. IsOpening problem.now search.arena.best) }
     {
         let arena = Arena::open(alloc, problem)?;
-        let shape = Shape::new(alloc, problem)?;
-        let whole = Whole::new(alloc, &shape, problem.cells())?;
+        let arrangement = Arrangement::new(alloc, problem)?;
+        let whole = Whole::new(alloc, &arrangement, problem.cells())?;
         let opens = OpenZones::new(alloc);
         let mut search = Search {
             alloc,
             arena,
             opens,
             same_steps: have_same_steps(problem),
-            shape,
+            arrangement,
             whole,
             next_greedy: 0,
         };
@@ -195,7 +195,7 @@ impl Search {
             arena,
             opens: _opens,
             same_steps: _,
-            shape: _shape,
+            arrangement: _shape,
             whole: _whole,
             next_greedy: _,
         } = self;

@@ -1,7 +1,7 @@
 //! What is seen of a zone: the rooms of its spans, the heights of its rows, and what rooms its bound wants.
 
+use crate::arrangement::{Arrangement, class_of, number_at, raise};
 use crate::rises::{Rises, first_above, room_past};
-use crate::shape::{Shape, class_of, number_at, raise};
 use crate::spread::{Spread, greatest_rooms, least_rooms, zone_spread};
 use crate::whole::Whole;
 use std::alloc::{AllocError, Global};
@@ -40,20 +40,20 @@ impl Sight {
     /// a span wants its last class.
     pub(crate) fn of_zone(
         alloc: Global,
-        shape: &Shape,
+        arrangement: &Arrangement,
         whole: &Whole,
         ranges: &[Range],
         same_steps: bool,
     ) -> Result<Sight, AllocError> {
-        let spread = zone_spread(alloc, shape, &whole.spread, ranges)?;
-        let least = least_rooms(alloc, shape, &spread)?;
-        let most = greatest_rooms(alloc, shape, &spread)?;
+        let spread = zone_spread(alloc, arrangement, &whole.spread, ranges)?;
+        let least = least_rooms(alloc, arrangement, &spread)?;
+        let most = greatest_rooms(alloc, arrangement, &spread)?;
         let heights = heights_at(alloc, whole, &most)?;
         let rises = whole.rises.within(alloc, (&least, &most), &heights)?;
         let wanted = if same_steps {
-            rooms_for(alloc, shape, &rises, &least, &heights)?
+            rooms_for(alloc, arrangement, &rises, &least, &heights)?
         } else {
-            last_rooms(alloc, shape, &least, &most)?
+            last_rooms(alloc, arrangement, &least, &most)?
         };
         Ok(Sight {
             spread,
@@ -74,10 +74,14 @@ fn heights_at(alloc: Global, whole: &Whole, most: &[u32]) -> Result<Vec<u32>, Al
 }
 
 /// The places where rows begin, each with a gap before the next, and where the last one ends.
-fn row_places(alloc: Global, shape: &Shape, heights: &[u32]) -> Result<Vec<u32>, AllocError> {
-    let gap = shape.spacing.row_gap;
-    let mut places = vec![in alloc; 0; (shape.rows as usize).saturating_add(1)]?;
-    for (number, strip) in shape.strips.iter().enumerate() {
+fn row_places(
+    alloc: Global,
+    arrangement: &Arrangement,
+    heights: &[u32],
+) -> Result<Vec<u32>, AllocError> {
+    let gap = arrangement.spacing.row_gap;
+    let mut places = vec![in alloc; 0; (arrangement.rows as usize).saturating_add(1)]?;
+    for (number, strip) in arrangement.strips.iter().enumerate() {
         let end = number_at(&places, strip.0 as usize)
             .saturating_add(number_at(heights, number))
             .saturating_add(gap);
@@ -89,27 +93,27 @@ fn row_places(alloc: Global, shape: &Shape, heights: &[u32]) -> Result<Vec<u32>,
 /// The total height of rows that give each strip its height.
 pub(crate) fn total_height(
     alloc: Global,
-    shape: &Shape,
+    arrangement: &Arrangement,
     heights: &[u32],
 ) -> Result<u32, AllocError> {
-    if shape.rows == 0 {
+    if arrangement.rows == 0 {
         return Ok(0);
     }
-    let lines = shape.spacing.lines;
-    let end = rows_end(alloc, shape, heights)?;
+    let lines = arrangement.spacing.lines;
+    let end = rows_end(alloc, arrangement, heights)?;
     Ok(
         end.saturating_add(lines)
-            .saturating_sub(shape.spacing.row_gap),
+            .saturating_sub(arrangement.spacing.row_gap),
     )
 }
 
 /// The place where the last row ends, with a gap after it.
-fn rows_end(alloc: Global, shape: &Shape, heights: &[u32]) -> Result<u32, AllocError> {
-    if shape.has_tall_strips() {
-        let places = row_places(alloc, shape, heights)?;
-        return Ok(number_at(&places, shape.rows as usize));
+fn rows_end(alloc: Global, arrangement: &Arrangement, heights: &[u32]) -> Result<u32, AllocError> {
+    if arrangement.has_tall_strips() {
+        let places = row_places(alloc, arrangement, heights)?;
+        return Ok(number_at(&places, arrangement.rows as usize));
     }
-    let gaps = u64::from(shape.rows).saturating_mul(u64::from(shape.spacing.row_gap));
+    let gaps = u64::from(arrangement.rows).saturating_mul(u64::from(arrangement.spacing.row_gap));
     let mut lines = 0u64;
     for &height in heights {
         lines = lines.saturating_add(u64::from(height));
@@ -121,14 +125,14 @@ fn rows_end(alloc: Global, shape: &Shape, heights: &[u32]) -> Result<u32, AllocE
 /// strips have these heights. None of them is below those from which the rises were found.
 fn rooms_for(
     alloc: Global,
-    shape: &Shape,
+    arrangement: &Arrangement,
     rises: &Rises,
     least: &[u32],
     heights: &[u32],
 ) -> Result<Vec<u32>, AllocError> {
-    let lines = lines_of_strips(alloc, shape, heights)?;
+    let lines = lines_of_strips(alloc, arrangement, heights)?;
     let mut rooms = Vec::from_slice(alloc, least)?;
-    for span in 0..shape.spans.len() {
+    for span in 0..arrangement.spans.len() {
         let of_span = rises.of_span(span);
         let above = first_above(of_span, 0, &lines);
         raise(&mut rooms, span, room_past(of_span, above));
@@ -139,21 +143,21 @@ fn rooms_for(
 /// How many lines the rows of each strip have, with the gaps between them, where strips have these heights.
 pub(crate) fn lines_of_strips(
     alloc: Global,
-    shape: &Shape,
+    arrangement: &Arrangement,
     heights: &[u32],
 ) -> Result<Vec<u32>, AllocError> {
-    if !shape.has_tall_strips() {
+    if !arrangement.has_tall_strips() {
         return Vec::from_slice(alloc, heights);
     }
-    let places = row_places(alloc, shape, heights)?;
+    let places = row_places(alloc, arrangement, heights)?;
     let mut lines = Vec::new(alloc);
-    for strip in &shape.strips {
+    for strip in &arrangement.strips {
         let top = number_at(&places, strip.0 as usize);
         let bottom = number_at(&places, strip.1 as usize);
         lines.push(
             bottom
                 .saturating_sub(top)
-                .saturating_sub(shape.spacing.row_gap),
+                .saturating_sub(arrangement.spacing.row_gap),
         )?;
     }
     Ok(lines)
@@ -162,13 +166,13 @@ pub(crate) fn lines_of_strips(
 /// For each span the first width of the class of its greatest room, or its least room where that is greater.
 fn last_rooms(
     alloc: Global,
-    shape: &Shape,
+    arrangement: &Arrangement,
     least: &[u32],
     most: &[u32],
 ) -> Result<Vec<u32>, AllocError> {
     let mut rooms = Vec::from_slice(alloc, least)?;
     for (span, &room) in most.iter().enumerate() {
-        let classes = shape.classes_of(span);
+        let classes = arrangement.classes_of(span);
         raise(
             &mut rooms,
             span,

@@ -1,6 +1,6 @@
 //! How far the columns of a zone may lie apart.
 
-use crate::shape::{Shape, number_at};
+use crate::arrangement::{Arrangement, number_at};
 use std::alloc::{AllocError, Global};
 use tl_problem::Range;
 
@@ -86,57 +86,57 @@ impl Spread {
 }
 
 /// How far the columns lie apart on the page, where each span has at least its least width.
-pub(crate) fn page_spread(alloc: Global, shape: &Shape) -> Result<Spread, AllocError> {
-    let gap = signed(shape.spacing.gap);
-    let page = shape
+pub(crate) fn page_spread(alloc: Global, arrangement: &Arrangement) -> Result<Spread, AllocError> {
+    let gap = signed(arrangement.spacing.gap);
+    let page = arrangement
         .width
-        .saturating_sub(shape.spacing.edges)
-        .saturating_add(shape.spacing.gap);
-    let mut spread = Spread::new(alloc, (shape.cols as usize).saturating_add(1))?;
+        .saturating_sub(arrangement.spacing.edges)
+        .saturating_add(arrangement.spacing.gap);
+    let mut spread = Spread::new(alloc, (arrangement.cols as usize).saturating_add(1))?;
     // In this order the fewest limits change one that was there: a span keeps its columns a gap apart, and
     // only the page keeps them near each other.
-    for span in 0..shape.spans.len() {
-        limit_first(shape, span, 0, &mut spread);
+    for span in 0..arrangement.spans.len() {
+        limit_first(arrangement, span, 0, &mut spread);
     }
-    for column in 0..shape.cols {
+    for column in 0..arrangement.cols {
         spread.limit(column.saturating_add(1), column, gap.saturating_neg());
     }
-    spread.limit(0, shape.cols, signed(page));
+    spread.limit(0, arrangement.cols, signed(page));
     Ok(spread)
 }
 
 /// How far the columns lie apart on the page and in the ranges, by how far they do on the page alone.
 pub(crate) fn zone_spread(
     alloc: Global,
-    shape: &Shape,
+    arrangement: &Arrangement,
     page: &Spread,
     ranges: &[Range],
 ) -> Result<Spread, AllocError> {
     let mut spread = page.copy(alloc)?;
     for (span, range) in ranges.iter().enumerate() {
         if range.first > 0 {
-            limit_first(shape, span, range.first as usize, &mut spread);
+            limit_first(arrangement, span, range.first as usize, &mut spread);
         }
-        limit_last(shape, span, range.last as usize, &mut spread);
+        limit_last(arrangement, span, range.last as usize, &mut spread);
     }
     Ok(spread)
 }
 
 /// Gives a span no room below its class `first`.
-fn limit_first(shape: &Shape, number: usize, first: usize, spread: &mut Spread) {
-    if let Some(span) = shape.spans.get(number) {
-        let least = signed(number_at(shape.classes_of(number), first));
-        let apart = least.saturating_add(signed(shape.spacing.gap));
+fn limit_first(arrangement: &Arrangement, number: usize, first: usize, spread: &mut Spread) {
+    if let Some(span) = arrangement.spans.get(number) {
+        let least = signed(number_at(arrangement.classes_of(number), first));
+        let apart = least.saturating_add(signed(arrangement.spacing.gap));
         spread.limit(span.right, span.left, apart.saturating_neg());
     }
 }
 
 /// Gives a span no room past its class `last`.
-fn limit_last(shape: &Shape, number: usize, last: usize, spread: &mut Spread) {
-    let next = shape.classes_of(number).get(last.saturating_add(1));
-    if let (Some(span), Some(&next)) = (shape.spans.get(number), next) {
+fn limit_last(arrangement: &Arrangement, number: usize, last: usize, spread: &mut Spread) {
+    let next = arrangement.classes_of(number).get(last.saturating_add(1));
+    if let (Some(span), Some(&next)) = (arrangement.spans.get(number), next) {
         let most = signed(next).saturating_sub(1);
-        let gap = signed(shape.spacing.gap);
+        let gap = signed(arrangement.spacing.gap);
         spread.limit(span.left, span.right, most.saturating_add(gap));
     }
 }
@@ -144,12 +144,12 @@ fn limit_last(shape: &Shape, number: usize, last: usize, spread: &mut Spread) {
 /// The least room of each span.
 pub(crate) fn least_rooms(
     alloc: Global,
-    shape: &Shape,
+    arrangement: &Arrangement,
     spread: &Spread,
 ) -> Result<Vec<u32>, AllocError> {
-    let gap = signed(shape.spacing.gap);
+    let gap = signed(arrangement.spacing.gap);
     let mut rooms = Vec::new(alloc);
-    for span in &shape.spans {
+    for span in &arrangement.spans {
         let back = spread.at(span.right, span.left).saturating_neg();
         rooms.push(unsigned(back.saturating_sub(gap)))?;
     }
@@ -159,12 +159,12 @@ pub(crate) fn least_rooms(
 /// The greatest room of each span.
 pub(crate) fn greatest_rooms(
     alloc: Global,
-    shape: &Shape,
+    arrangement: &Arrangement,
     spread: &Spread,
 ) -> Result<Vec<u32>, AllocError> {
-    let gap = signed(shape.spacing.gap);
+    let gap = signed(arrangement.spacing.gap);
     let mut rooms = Vec::new(alloc);
-    for span in &shape.spans {
+    for span in &arrangement.spans {
         let on = spread.at(span.left, span.right);
         rooms.push(unsigned(on.saturating_sub(gap)))?;
     }

@@ -9,7 +9,7 @@ use tl_problem::{Cell, Problem, Span};
 
 /// The spans and strips of a problem's cells. A strip is the rows from a top up to a bottom; each row is
 /// one, and each cell lies in one.
-pub(crate) struct Shape {
+pub(crate) struct Arrangement {
     pub(crate) cols: u32,
     pub(crate) rows: u32,
     pub(crate) spacing: Spacing,
@@ -27,9 +27,9 @@ pub(crate) struct Shape {
     pub(crate) strip_of: Vec<usize>,
 }
 
-impl Drop for Shape {
+impl Drop for Arrangement {
     fn drop(self) {
-        let Shape {
+        let Arrangement {
             cols: _cols,
             rows: _rows,
             spacing: _spacing,
@@ -43,13 +43,13 @@ impl Drop for Shape {
     }
 }
 
-impl Shape {
-    /// The shape of the problem.
-    pub(crate) fn new(alloc: Global, problem: &Problem) -> Result<Shape, AllocError> {
+impl Arrangement {
+    /// The arrangement of the problem.
+    pub(crate) fn new(alloc: Global, problem: &Problem) -> Result<Arrangement, AllocError> {
         let cells = problem.cells();
         let strips = find_strips(alloc, problem.rows(), cells)?;
         let strip_of = strips_of_cells(alloc, &strips, cells)?;
-        Ok(Shape {
+        Ok(Arrangement {
             cols: problem.cols(),
             rows: problem.rows(),
             spacing: problem.spacing(),
