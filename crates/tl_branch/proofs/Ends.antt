@@ -2,6 +2,7 @@
 use Rattle.std.proofs.Common.{◌≡◌, ℕ, ◌+◌, ◌<◌, ◌≤◌, min, Bool, true, false, IsTrue, List, [], inl, inr}
 use Rattle.std.proofs.Common.{length, get_or, Option, Some, None, refl, sym, ap, ◌∙◌, subst, arith}
 use Rattle.std.specs.List.{Contains}
+use Rattle.std.specs.Option.{option_or}
 use Rattle.std.proofs.lemmas.Bool.{cases_lt}
 use Rattle.std.proofs.lemmas.List.Elements.{recursion_from_All}
 use Rattle.tl_base.proofs.Members.{Contains-none, none-Contains}
@@ -22,122 +23,61 @@ use Rattle.tl_cert.specs.Worked.{IsBoundOf}
 use Rattle.tl_solve.specs.declared.arena.Arena.{Arena}
 use Rattle.tl_solve.specs.declared.outcome.Outcome.{Outcome}
 use Rattle.tl_solve.specs.Arenas.{IsBoundFound, AreBoundsOf, IsLowered}
-use Rattle.tl_solve.specs.CutsFound.{IsCutFound, AreCutsOf}
-use Rattle.tl_solve.specs.Ends.{HasBoundUpTo, IsLeastStanding, MayEnd}
+use Rattle.tl_solve.specs.CutsFound.{AreCutsOf}
+use Rattle.tl_solve.specs.Ends.{HasBoundUpTo, IsLeastStanding, IsLeastUpto, MayEnd}
 use Rattle.tl_solve.specs.Orders.{CutsFirstSpans, CutsBelowPlacements, IsInClassOrder}
 use Rattle.tl_solve.specs.inner.Walk.{KeepsClassOrder}
+use Rattle.tl_solve.proofs.EndLaws.{bound-some, none-stands, stands-none}
 use Rattle.tl_solve.proofs.Writable.{all-flat_map}
 use Rattle.tl_store.proofs.SameBounds.{zero-bounds}
 use Rattle.tl_branch.specs.declared.learning.Learning.{Learning}
 use Rattle.tl_branch.specs.Learn.{FiresAreNeeded, IsLeastAhead, IsLeastLeft, IsLearnOutcome}
 use Rattle.tl_branch.specs.inner.Learnings.{IsLearning, IsGrown, IsClosedByBound, HasLine, WereKnown, log_nogoods}
-use Rattle.tl_branch.specs.inner.Opens.{IsLeastUpto, IsLeastOpen, MayFinish, OpenProve, least_with}
+use Rattle.tl_branch.specs.inner.Opens.{AreClosers, IsLeastOpen, MayFinish, OpenProve}
 use Rattle.tl_branch.proofs.Order.{passed-stay}
 use Rattle.tl_branch.proofs.Zones.{nogoods-count}
 
--- ---- one zone more
+-- ---- what closes a zone
 
-module _ (cuts lines bounds : List (Option ℕ)) (height upto least : ℕ)
-    (is : IsLeastUpto cuts lines bounds height upto least) where
-  -- a zone that is cut, has a line or has no widths changes nothing
-  least-skip : ((bound : ℕ) → get_or cuts upto None ≡ None → get_or lines upto None ≡ None →
-      get_or bounds upto None ≡ Some bound → ⊥) → IsLeastUpto cuts lines bounds height (upto + 1) least
-  least-skip none = record {
-    at_most = is.at_most;
-    never_more = λ z bound within uncut unlined found. elim (cases_lt z upto) [
-      | inl old ↦ is.never_more z bound old uncut unlined found
-      | inr new ↦
-          let last : z ≡ upto = omega (arith, within, new) in
-          absurd (none bound (subst (λ (n : ℕ). get_or cuts n None ≡ None) last uncut)
-          (subst (λ (n : ℕ). get_or lines n None ≡ None) last unlined)
-          (subst (λ (n : ℕ). get_or bounds n None ≡ Some bound) last found))
-    ];
-    attained = elim is.attained [
-      | inl same ↦ inl same
-      | inr some ↦ inr (some.0, some.1, omega (arith, some.2), some.3, some.4, some.5, some.6)
-    ];
-  }
+module _ (cuts lines closers : List (Option ℕ)) (are : AreClosers cuts lines (length cuts) closers) where
+  -- a zone without a closer has neither a cut nor a line, and the other way round
+  no_closer : (z : ℕ) → z < length cuts → get_or closers z None ≡ None → (get_or cuts z None ≡ None) × (get_or lines z None ≡ None)
+  no_closer z within none = by (get_or cuts z None) (get_or lines z None) refl refl (sym (are.each z within) ∙ none) where
+    by : (cut line : Option ℕ) → get_or cuts z None ≡ cut → get_or lines z None ≡ line → option_or cut line ≡ None →
+        (get_or cuts z None ≡ None) × (get_or lines z None ≡ None)
+    by None line is_cut is_line none = (is_cut, is_line ∙ none)
+    by (Some i) line is_cut is_line none = absurd cc
 
-  -- another may have a bound that is less
-  least-bound : (bound : ℕ) → get_or cuts upto None ≡ None → get_or lines upto None ≡ None →
-      get_or bounds upto None ≡ Some bound → IsLeastUpto cuts lines bounds height (upto + 1) (min least bound)
-  least-bound bound uncut unlined found = record {
-    at_most = omega (arith, is.at_most);
-    never_more = λ z other within no_cut no_line has. elim (cases_lt z upto) [
-      | inl old ↦ let before = is.never_more z other old no_cut no_line has in omega (arith, before)
-      | inr new ↦
-          let last : z ≡ upto = omega (arith, within, new) in
-          let same : Some bound ≡ Some other = sym found ∙ subst (λ (n : ℕ). get_or bounds n None ≡ Some other) last has in
-          let equal : bound ≡ other = cc in
-          omega (arith, equal)
-    ];
-    attained = elim (cases_lt bound least) [
-      | inl less ↦ inr (upto, bound, omega arith, uncut, unlined, found, omega (arith, less))
-      | inr more ↦ elim is.attained [
-        | inl same ↦ inl (omega (arith, same, more))
-        | inr some ↦ inr (some.0, some.1, omega (arith, some.2), some.3, some.4, some.5, omega (arith, some.6, more))
-      ]
-    ];
-  }
+  closer_none : (z : ℕ) → z < length cuts → get_or cuts z None ≡ None → get_or lines z None ≡ None → get_or closers z None ≡ None
+  closer_none z within uncut unlined =
+      are.each z within ∙ ap (λ cut. option_or cut (get_or lines z None)) uncut ∙ unlined
 
-  least-of : (cut line bound : Option ℕ) → get_or cuts upto None ≡ cut → get_or lines upto None ≡ line →
-      get_or bounds upto None ≡ bound → IsLeastUpto cuts lines bounds height (upto + 1) (least_with least cut line bound)
-  least-of (Some i) line bound is_cut is_line found = least-skip (λ b uncut unlined has.
-      let differ : Some i ≡ None = sym is_cut ∙ uncut in cc)
-  least-of None (Some k) bound is_cut is_line found = least-skip (λ b uncut unlined has.
-      let differ : Some k ≡ None = sym is_line ∙ unlined in cc)
-  least-of None None None is_cut is_line none = least-skip (λ b uncut unlined has. let differ : None ≡ Some b = sym none ∙ has in cc)
-  least-of None None (Some bound) is_cut is_line found = least-bound bound is_cut is_line found
-
-  pub least-next : IsLeastUpto cuts lines bounds height (upto + 1)
-      (least_with least (get_or cuts upto None) (get_or lines upto None) (get_or bounds upto None))
-  least-next = least-of (get_or cuts upto None) (get_or lines upto None) (get_or bounds upto None) refl refl refl
-
--- ---- all of them
-
-module _ (problem : ProblemModel) (trace : List CutAt) (cuts lines bounds : List (Option ℕ))
-    (are : AreCutsOf trace (length trace) cuts) (found : AreBoundsOf problem trace bounds) where
-  -- a zone that no cut has stands
-  stands-none : (z : ℕ) → z < length bounds → get_or cuts z None ≡ None → Stands trace z
-  stands-none z within none =
-      let not = subst (IsCutFound trace (length trace) z) none
-      (are.each z None (omega (arith, within, found.count, are.count))) in
-      record { there = omega (arith, within, found.count); not_cut = λ i d inside. not i d inside }
-
-  none-stands : (z : ℕ) → Stands trace z → (o : Option ℕ) → get_or cuts z None ≡ o → get_or cuts z None ≡ None
-  none-stands z stands None is = is
-  none-stands z stands (Some i) is =
-      let cut = subst (IsCutFound trace (length trace) z) is (are.each z None (omega (arith, stands.there, are.count))) in
-      absurd (stands.not_cut i (record { zone = 0; span = 0; class = 0 }) cut.0
-      (cut.1 (record { zone = 0; span = 0; class = 0 })))
-
-  bound-some : (z bound : ℕ) → z < length bounds → IsBoundOf problem trace z bound → (o : Option ℕ) → get_or bounds z None ≡ o →
-      get_or bounds z None ≡ Some bound
-  bound-some z bound within is None none =
-      let empty = subst (IsBoundFound problem (zone_of problem trace z)) none (found.each z None within) in
-      absurd (empty is.some.0 is.some.1)
-  bound-some z bound within is (Some other) some =
-      let has = subst (IsBoundFound problem (zone_of problem trace z)) some (found.each z None within) in
-      some ∙ ap Some (bound-unique problem (InZone problem (zone_of problem trace z)) other bound has is)
-
-  pub least-open : (height lower : ℕ) → IsLeastUpto cuts lines bounds height (length bounds) lower →
+module _ (problem : ProblemModel) (trace : List CutAt) (cuts lines closers bounds : List (Option ℕ))
+    (cuts_of : AreCutsOf trace (length trace) cuts) (found : AreBoundsOf problem trace bounds)
+    (are : AreClosers cuts lines (length cuts) closers) where
+  pub least-open : (height lower : ℕ) → IsLeastUpto closers bounds height (length bounds) lower →
       IsLeastOpen problem trace lines height lower
   least-open height lower is = record {
     at_most = is.at_most;
     never_more = λ z bound stands none has.
         let within : z < length bounds = omega (arith, stands.there, found.count) in
-        is.never_more z bound within (none-stands z stands (get_or cuts z None) refl) none
-        (bound-some z bound within has (get_or bounds z None) refl);
+        let inside : z < length cuts = omega (arith, stands.there, cuts_of.count) in
+        let uncut = none-stands problem trace cuts bounds cuts_of found z stands (get_or cuts z None) refl in
+        is.never_more z bound within (closer_none cuts lines closers are z inside uncut none)
+        (bound-some problem trace cuts bounds cuts_of found z bound within has (get_or bounds z None) refl);
     attained = elim is.attained [
       | inl same ↦ inl same
-      | inr some ↦ inr (
-        some.0,
-        some.1,
-        stands-none some.0 some.2 some.3,
-        some.4,
-        subst (IsBoundFound problem (zone_of problem trace some.0)) some.5 (found.each some.0 None some.2),
-        omega (arith, some.6),
-      )
+      | inr some ↦
+          let inside : some.0 < length cuts = omega (arith, some.2, found.count, cuts_of.count) in
+          let open_at = no_closer cuts lines closers are some.0 inside some.3 in
+          inr (
+            some.0,
+            some.1,
+            stands-none problem trace cuts bounds cuts_of found some.0 some.2 open_at.0,
+            open_at.1,
+            subst (IsBoundFound problem (zone_of problem trace some.0)) some.4 (found.each some.0 None some.2),
+            omega (arith, some.5),
+          )
     ];
   }
 

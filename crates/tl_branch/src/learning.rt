@@ -12,7 +12,6 @@ ghost use Rattle.tl_cert.specs.declared.log.End.TheVariants as ends;
 ghost use Rattle.tl_branch.specs.Learn.{FiresAreNeeded, IsUnclosed};
 ghost use Rattle.tl_branch.specs.inner.Learnings.{HasLine, IsCutOff, IsGrown, IsLearning, IsStart, NoOtherLine, line_of, log_nogoods};
 
-use crate::agreement::low_is_high;
 use std::alloc::{AllocError, Global};
 use tl_base::List;
 use tl_cert::{CutAt, End, Log, LogLine, Nogood};
@@ -78,7 +77,7 @@ impl Learning {
             store,
             log: List::new(alloc),
             lines,
-            low_is_high: low_is_high(problem),
+            low_is_high: problem.low_is_high(),
             budget,
             height,
             done: false,

@@ -4,7 +4,6 @@
 //! is `high` for every cell, a trace and a log that are learnt.
 #![tactic(auto)]
 
-mod agreement;
 mod learn;
 mod learning;
 mod lines;

@@ -20,7 +20,7 @@ use Rattle.tl_problem.proofs.Heights.{IsLowAt-from, height-from_first, height-fr
 use Rattle.tl_table.specs.declared.cell.Content.{out-Content}
 use Rattle.tl_table.specs.declared.cell.Table.{Table, out-Table}
 use Rattle.tl_table.specs.declared.cell.TableCell.{TableCell, out-TableCell}
-use Rattle.tl_form.specs.declared.heights.Bound.TheVariants.{Low, High}
+use Rattle.tl_form.specs.declared.heights.HeightBound.TheVariants.{Low, High}
 use Rattle.tl_form.specs.declared.heights.InnerSteps.{InnerSteps}
 use Rattle.tl_table.specs.Layouts.{spacing_in}
 use Rattle.tl_table.specs.Sound.{IsSound as IsSoundTable, IsSoundWithin}

@@ -7,9 +7,9 @@ use Rattle.std.proofs.lemmas.List.Elements.{All-get_or, All-contains}
 use Rattle.tl_base.specs.declared.style.Style.{Style}
 use Rattle.tl_base.proofs.Members.{All-from_Contains, Contains-filter, filter-Contains, Contains-map, map-Contains}
 use Rattle.tl_cert.specs.declared.section.Section.{Section}
-use Rattle.tl_form.specs.declared.heights.Bound.{Bound}
-use Rattle.tl_form.specs.declared.heights.Bound.TheVariants.{Low, High}
-use Rattle.tl_form.specs.declared.nested_steps.Told.{Told}
+use Rattle.tl_form.specs.declared.heights.HeightBound.{HeightBound}
+use Rattle.tl_form.specs.declared.heights.HeightBound.TheVariants.{Low, High}
+use Rattle.tl_form.specs.declared.nested_steps.Finding.{Finding}
 use Rattle.tl_form.specs.Expected.{placed_width}
 use Rattle.tl_form.specs.Nested.{IsAsWide, IsPlacedWithin, IsGreatestLower, IsLeastFound}
 use Rattle.tl_form.specs.inner.Collecting.{IsMost, IsFewest, IsAsWideAs, IsPlacedIn, TellsHeight, told_of, told_by, capped}
@@ -27,7 +27,7 @@ item_any P xs x has is = (has.0, x, has.1, has.2, is)
 
 -- ---- at wider pages no more
 
-lower_le : (told : List Told) (v w a b : ℕ) → v ≤ w → IsMost (IsAsWideAs v) (λ one. one.lower) told a →
+lower_le : (told : List Finding) (v w a b : ℕ) → v ≤ w → IsMost (IsAsWideAs v) (λ one. one.lower) told a →
     IsMost (IsAsWideAs w) (λ one. one.lower) told b → b ≤ a
 lower_le told v w a b wider first second =
     let at = any_all (λ one. IsAsWideAs w one × (one.lower ≡ b)) (λ one. IsAsWideAs v one →
@@ -35,7 +35,7 @@ lower_le told v w a b wider first second =
     let counts = at.1.0 in
     omega (arith, at.1.1, at.2 (omega (arith, counts, wider)))
 
-found_le : (told : List Told) (v w a b : ℕ) → v ≤ w → IsFewest (IsPlacedIn v) (λ one. one.height) told a →
+found_le : (told : List Finding) (v w a b : ℕ) → v ≤ w → IsFewest (IsPlacedIn v) (λ one. one.height) told a →
     IsFewest (IsPlacedIn w) (λ one. one.height) told b → b ≤ a
 found_le told v w a b wider first second =
     let at = any_all (λ one. IsPlacedIn v one × (one.height ≡ a)) (λ one. IsPlacedIn w one →
@@ -43,12 +43,12 @@ found_le told v w a b wider first second =
     let counts = at.1.0 in
     omega (arith, at.1.1, at.2 (omega (arith, counts, wider)))
 
-pub height_falls : (bound : Bound) (told : List Told) (v w a b : ℕ) → v ≤ w → TellsHeight bound told v a →
+pub height_falls : (bound : HeightBound) (told : List Finding) (v w a b : ℕ) → v ≤ w → TellsHeight bound told v a →
     TellsHeight bound told w b → b ≤ a
 height_falls Low told v w a b wider first second = lower_le told v w a b wider first second
 height_falls High told v w a b wider first second = found_le told v w a b wider first second
 
-pub height_one : (bound : Bound) (told : List Told) (w a b : ℕ) → TellsHeight bound told w a → TellsHeight bound told w b → a ≡ b
+pub height_one : (bound : HeightBound) (told : List Finding) (w a b : ℕ) → TellsHeight bound told w a → TellsHeight bound told w b → a ≡ b
 height_one bound told w a b is are =
     omega (
       arith,
@@ -60,7 +60,7 @@ height_one bound told w a b is are =
 
 module _ (style : Style) (number : ℕ) (sections : List Section) where
   -- what is told is told by a section of the table
-  told_section : (one : Told) → Contains (told_by style number sections) one →
+  told_section : (one : Finding) → Contains (told_by style number sections) one →
       (section : Section) × Contains sections section × (section.table ≡ number) × (told_of style section ≡ one)
   told_section one has =
       let mapped = map-Contains (told_of style) (filter (λ section. section.table == number) sections) one has in
@@ -94,7 +94,7 @@ module _ (style : Style) (number : ℕ) (sections : List Section) where
       let at = any_item (λ one. IsAsWideAs w one × (one.lower ≡ h)) (told_by style number sections) is.attained in
       let by = told_section at.0 at.1 in record {
         attained = item_any (λ section. IsAsWide number w section × (section.lower ≡ h)) sections by.0 by.1
-            (record { of = by.2; wide = subst (IsAsWideAs w) (sym by.3) at.2.0 }, ap (λ (each : Told). each.lower) by.3 ∙ at.2.1);
+            (record { of = by.2; wide = subst (IsAsWideAs w) (sym by.3) at.2.0 }, ap (λ (each : Finding). each.lower) by.3 ∙ at.2.1);
         never_more = All-from_Contains (λ section. IsAsWide number w section → section.lower ≤ h) sections (λ section has counts.
             All-contains (λ one. IsAsWideAs w one → one.lower ≤ h) (told_by style number sections) (told_of style section)
             is.never_more
@@ -130,7 +130,7 @@ module _ (style : Style) (number : ℕ) (sections : List Section) where
       let by = told_section at.0 at.1 in record {
         attained = item_any (λ section. IsPlacedWithin style number w section × (section.height ≡ h)) sections by.0 by.1 (
           record { of = by.2; narrow = uncapped w by.0 small (subst (IsPlacedIn w) (sym by.3) at.2.0) },
-          ap (λ (each : Told). each.height) by.3 ∙ at.2.1,
+          ap (λ (each : Finding). each.height) by.3 ∙ at.2.1,
         );
         never_less = All-from_Contains (λ section. IsPlacedWithin style number w section →
             h ≤ section.height) sections (λ section has counts.

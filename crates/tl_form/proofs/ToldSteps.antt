@@ -5,10 +5,10 @@ use Rattle.tl_base.specs.declared.style.Style.{Style}
 use Rattle.tl_base.proofs.Stacking.{first_width-within}
 use Rattle.tl_cert.specs.declared.section.Section.{Section}
 use Rattle.tl_table.specs.declared.cell.Table.{Table, out-Table}
-use Rattle.tl_form.specs.declared.heights.Bound.{Bound}
-use Rattle.tl_form.specs.declared.heights.Bound.TheVariants.{Low, High}
+use Rattle.tl_form.specs.declared.heights.HeightBound.{HeightBound}
+use Rattle.tl_form.specs.declared.heights.HeightBound.TheVariants.{Low, High}
 use Rattle.tl_form.specs.declared.heights.InnerSteps.{InnerSteps}
-use Rattle.tl_form.specs.declared.nested_steps.Told.{Told}
+use Rattle.tl_form.specs.declared.nested_steps.Finding.{Finding}
 use Rattle.tl_table.specs.Least.{IsLeastWidth}
 use Rattle.tl_form.specs.Nested.{IsGreatestLower, IsLeastFound, AreStepsBy}
 use Rattle.tl_form.specs.inner.Collecting.{AreStepsBelow, AreToldSteps, TellsHeight, told_by, with_step}
@@ -20,27 +20,27 @@ use Rattle.tl_form.proofs.Truth.{height_from}
 
 -- ---- width by width
 
-pub never_wide : (bound : Bound) (told : List Told) (least page : ℕ) (steps : List Config) →
+pub never_wide : (bound : HeightBound) (told : List Finding) (least page : ℕ) (steps : List Config) →
     AreToldSteps bound told least page steps →
     page < least → ⊥
 never_wide bound told least page steps is wide =
     omega (arith, wide, is.begins, first_width-within page steps is.are.decreasing is.are.within)
 
-pub height_missing : (bound : Bound) (told : List Told) (least page w : ℕ) (steps : List Config) →
+pub height_missing : (bound : HeightBound) (told : List Finding) (least page w : ℕ) (steps : List Config) →
     AreToldSteps bound told least page steps →
     least ≤ w → w ≤ page → ((h : ℕ) → TellsHeight bound told w h → ⊥) → ⊥
 height_missing bound told least page w steps is from within none =
     let here = height_from steps w is.are.decreasing (omega (arith, is.begins, from)) in
     none here.0 ((is.are.each w here.0 within).0 here.1).1
 
-pub told_none : (bound : Bound) (told : List Told) (least : ℕ) (steps : List Config) → steps ≡ [] →
+pub told_none : (bound : HeightBound) (told : List Finding) (least : ℕ) (steps : List Config) → steps ≡ [] →
     AreStepsBelow (TellsHeight bound told) least least steps
 told_none bound told least steps is =
     below_none (TellsHeight bound told) (height_one bound told)
     (λ v w a b wider first second. height_falls bound told v w a b wider first second)
     least steps is
 
-pub told_more : (bound : Bound) (told : List Told) (least w h : ℕ) (steps : List Config) → least ≤ w →
+pub told_more : (bound : HeightBound) (told : List Finding) (least w h : ℕ) (steps : List Config) → least ≤ w →
     AreStepsBelow (TellsHeight bound told) least w steps → TellsHeight bound told w h →
     AreStepsBelow (TellsHeight bound told) least (w + 1) (with_step steps w h)
 told_more bound told least w h steps from below here =
@@ -48,7 +48,7 @@ told_more bound told least w h steps from below here =
     (λ v x a b wider first second. height_falls bound told v x a b wider first second) least
     w h steps from below here
 
-pub told_done : (bound : Bound) (told : List Told) (least page w : ℕ) (steps : List Config) → least ≤ page → w ≡ page + 1 →
+pub told_done : (bound : HeightBound) (told : List Finding) (least page w : ℕ) (steps : List Config) → least ≤ page → w ≡ page + 1 →
     AreStepsBelow (TellsHeight bound told) least w steps → AreToldSteps bound told least page steps
 told_done bound told least page w steps wide end below =
     let all = subst (λ n. AreStepsBelow (TellsHeight bound told) least n steps) end below in
@@ -66,7 +66,7 @@ module _ (style : Style) (page : ℕ) (sections : List Section) (nested : Table)
   number : ℕ
   number = (out-Table nested).number
 
-  abbrev told : List Told
+  abbrev told : List Finding
   told = told_by style (out-Table nested).number sections
 
   pub to_low : (steps : InnerSteps) → AreStepsBy style page sections nested steps → AreToldSteps Low told least page steps.low

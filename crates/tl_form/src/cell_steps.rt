@@ -8,10 +8,10 @@ ghost use Rattle.tl_table.specs.declared.cell.Content.{out-Content};
 ghost use Rattle.tl_table.specs.declared.cell.TableCell.{out-TableCell};
 ghost use Rattle.tl_form.specs.Problems.{AreStepsOf, BlockNeeds, CellNeeds};
 ghost use Rattle.tl_table.specs.Tables.{tables_of, tables_in};
-ghost use Rattle.tl_form.specs.declared.heights.Bound.TheVariants.{Low, High};
+ghost use Rattle.tl_form.specs.declared.heights.HeightBound.TheVariants.{Low, High};
 ghost use Rattle.tl_form.specs.inner.CellSteps.{From, HaveSteps, IsLowCell, IsPlainBlock, IsStart, NeedsBy};
 
-use crate::heights::{Bound, InnerSteps, bound_for, start_of};
+use crate::heights::{HeightBound, InnerSteps, bound_for, start_of};
 use crate::lowered::lowered;
 use crate::tall::tall_stack;
 use std::alloc::{AllocError, Global};
@@ -20,7 +20,7 @@ use tl_table::{Content, TableCell};
 use tl_text::{configs, least_width};
 
 /// The least width at which the block has a height.
-fn block_start(block: &Content, inner: &[InnerSteps], bound: Bound) -> u32
+fn block_start(block: &Content, inner: &[InnerSteps], bound: HeightBound) -> u32
     requires { HaveSteps inner.now (tables_of (out-Content block.now)) }
     ensures { IsStart (BlockNeeds (NeedsBy bound inner.now) (out-Content block.now)) result }
 {
@@ -31,7 +31,7 @@ fn block_start(block: &Content, inner: &[InnerSteps], bound: Bound) -> u32
 }
 
 /// The least width at which the cell has a height, however many lines lie inside it.
-pub fn cell_start(cell: &TableCell, inner: &[InnerSteps], bound: Bound) -> u32
+pub fn cell_start(cell: &TableCell, inner: &[InnerSteps], bound: HeightBound) -> u32
     requires { HaveSteps inner.now (tables_in (out-TableCell cell.now)) }
     ensures { (lines : ℕ) → IsStart (CellNeeds (NeedsBy bound inner.now) lines (out-TableCell cell.now)) result }
 {
@@ -68,7 +68,7 @@ fn block_steps(
     from: u32,
     page: u32,
     inner: &[InnerSteps],
-    bound: Bound,
+    bound: HeightBound,
 ) -> Result<Steps, AllocError>
     requires steps { HaveSteps inner.now (tables_of (out-Content block.now)) }
     requires some { (h : ℕ) × BlockNeeds (NeedsBy bound inner.now) (out-Content block.now) from h }
@@ -148,7 +148,7 @@ pub fn cell_steps(
     lines: u32,
     page: u32,
     inner: &[InnerSteps],
-    bound: Bound,
+    bound: HeightBound,
 ) -> Result<Option<Steps>, AllocError>
     requires steps { HaveSteps inner.now (tables_in (out-TableCell cell.now)) }
     requires few { lines ≤ MAX_HEIGHT }
@@ -206,7 +206,7 @@ pub fn high_steps(
         (AreStepsOf (CellNeeds (NeedsBy High inner.now) lines (out-TableCell cell.now)) page)) }
 {
     if !is_plain(cell) {
-        return cell_steps(alloc, cell, lines, page, inner, Bound::High);
+        return cell_steps(alloc, cell, lines, page, inner, HeightBound::High);
     }
     let same = List::from_slice(alloc, low.configs())?;
     Ok(Some(Steps::from_list(same)))

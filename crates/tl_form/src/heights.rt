@@ -26,19 +26,19 @@ pub struct InnerSteps {
 
 /// Which bound of a nested table's heights is meant.
 #[derive(Clone, Copy)]
-pub enum Bound {
+pub enum HeightBound {
     Low,
     High,
 }
 
 impl InnerSteps {
     /// The steps that are this bound.
-    fn steps(&self, bound: Bound) -> &Steps
+    fn steps(&self, bound: HeightBound) -> &Steps
         ensures { result.now ≡ bound_of bound self.now }
     {
         match bound {
-            Bound::Low => &self.low,
-            Bound::High => &self.high,
+            HeightBound::Low => &self.low,
+            HeightBound::High => &self.high,
         }
     }
 }
@@ -110,7 +110,7 @@ pub fn start_of(steps: &Steps) -> u32
 }
 
 /// A bound of the table with this number.
-pub fn bound_for(inner: &[InnerSteps], number: u32, bound: Bound) -> &Steps
+pub fn bound_for(inner: &[InnerSteps], number: u32, bound: HeightBound) -> &Steps
     requires { IsSome (steps_for inner.now number) }
     ensures { IsSomeAnd (steps_for inner.now number) (λ one. result.now ≡ bound_of bound one) }
 {

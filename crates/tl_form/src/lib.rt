@@ -20,6 +20,7 @@ mod problems;
 mod subject;
 mod tall;
 mod valid_laws;
+mod widths;
 
 pub use chain_laws::chains_are_writable;
 pub use closed_laws::{budget_closes, closed_tell_least};
@@ -41,3 +42,4 @@ pub use valid_laws::{
     bounded_is_between, lowest_is_least, named_layout_fits, narrow_is_too_wide,
     refused_for_one_reason, same_tables_share_certificates, valid_is_not_refused,
 };
+pub use widths::total_width;

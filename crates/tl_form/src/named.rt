@@ -11,7 +11,6 @@ ghost use Rattle.tl_cert.specs.Text.{IsNarrow, IsWritable};
 ghost use Rattle.tl_table.specs.declared.cell.Content.{out-Content};
 ghost use Rattle.tl_table.specs.declared.cell.Table.{out-Table};
 ghost use Rattle.tl_table.specs.declared.cell.TableCell.{out-TableCell};
-ghost use Rattle.tl_form.specs.Expected.{placed_width};
 ghost use Rattle.tl_table.specs.Layouts.{Fits};
 ghost use Rattle.tl_form.specs.Named.{IsChosen, IsLastPlacement, IsNamed};
 ghost use Rattle.tl_form.specs.Nested.{IsPlacedWithin};
@@ -22,19 +21,12 @@ ghost use Rattle.tl_form.specs.ValidLaws.{HasHeight};
 ghost use Rattle.tl_form.specs.inner.Naming.{CanLay, HasPart, HasRooms, HaveFewColumns, IsLaidWith, IsLower, IsPlacedBy, LaysOut, NoneWithin};
 
 use crate::laid::lay;
+use crate::widths::placed_width;
 use std::alloc::{AllocError, Global};
-use tl_base::{List, Style, room_on_page, total_size};
+use tl_base::{List, Style, room_on_page};
 use tl_cert::{Certificate, Section};
 use tl_problem::Placed;
 use tl_table::{Content, Layout, Table, TableCell};
-
-/// The columns that the placement of the section takes.
-fn placed_width(style: Style, section: &Section) -> u64
-    requires { length section.now.widths ≤ MAX_COLUMNS }
-    ensures { result ≡ placed_width style section.now }
-{
-    total_size(style.gap(), style.edges(), section.widths.as_slice())
-}
 
 /// Whether the section is one of the table with this number, and its placement takes at most `room`
 /// columns.

@@ -18,7 +18,7 @@ ghost use Rattle.tl_table.specs.Tables.{inner_tables, tables_in};
 ghost use Rattle.tl_form.specs.inner.Collecting.{AreToldSteps, Collects, IsAsWideAs, IsFewest, IsMost, IsPlacedIn, LackSteps, TellsHeight};
 ghost use Rattle.tl_form.specs.inner.Collecting.{capped, greater, is_below, lesser, told_by, with_step};
 
-use crate::heights::{Bound, InnerSteps};
+use crate::heights::{HeightBound, InnerSteps};
 use crate::problems::has_sound_problem;
 use std::alloc::{AllocError, Global};
 use tl_base::{Config, List, Steps, Style};
@@ -27,7 +27,7 @@ use tl_table::{Content, Table, TableCell, least_width};
 
 /// What one section tells of its table.
 #[derive(Clone, Copy)]
-pub struct Told {
+pub struct Finding {
     /// The page width that was searched, in columns.
     pub width: u32,
     /// How many columns the placement takes, up to the last number of 64 bits.
@@ -60,13 +60,13 @@ fn told_by(
     sections: &[Section],
     style: Style,
     number: u32,
-) -> Result<Vec<Told>, AllocError>
+) -> Result<Vec<Finding>, AllocError>
     ensures { IfOk result (λ told. told.items ≡ told_by style number sections.now) }
 {
     let mut told = Vec::new(alloc);
     for section in sections {
         if section.table == number {
-            told.push(Told {
+            told.push(Finding {
                 width: section.width,
                 placed: placed_width(section, style),
                 height: section.height,
@@ -98,7 +98,7 @@ fn lesser(known: Option<u32>, n: u32) -> u32
 }
 
 /// The greatest lower bound on pages of at least `w` columns. `None` exactly where no section has one.
-fn greatest_lower(told: &[Told], w: u32) -> Option<u32>
+fn greatest_lower(told: &[Finding], w: u32) -> Option<u32>
     ensures { MatchOption result (All (λ one. IsAsWideAs w one → ⊥) told.now)
         (IsMost (IsAsWideAs w) (λ one. one.lower) told.now) }
 {
@@ -112,7 +112,7 @@ fn greatest_lower(told: &[Told], w: u32) -> Option<u32>
 }
 
 /// The least height of the placements of at most `w` columns. `None` exactly where there is none.
-fn least_height(told: &[Told], w: u64) -> Option<u32>
+fn least_height(told: &[Finding], w: u64) -> Option<u32>
     ensures { MatchOption result (All (λ one. IsPlacedIn w one → ⊥) told.now)
         (IsFewest (IsPlacedIn w) (λ one. one.height) told.now) }
 {
@@ -126,13 +126,13 @@ fn least_height(told: &[Told], w: u64) -> Option<u32>
 }
 
 /// The height at a width, as a bound of either kind. `None` exactly where no section tells one.
-fn height_by(bound: Bound, told: &[Told], w: u32) -> Option<u32>
+fn height_by(bound: HeightBound, told: &[Finding], w: u32) -> Option<u32>
     ensures { MatchOption result ((h : ℕ) → TellsHeight bound told.now w h → ⊥)
         (TellsHeight bound told.now w) }
 {
     match bound {
-        Bound::Low => greatest_lower(told, w),
-        Bound::High => least_height(told, u64::from(w)),
+        HeightBound::Low => greatest_lower(told, w),
+        HeightBound::High => least_height(told, u64::from(w)),
     }
 }
 
@@ -159,8 +159,8 @@ fn with_step(mut configs: List<Config>, width: u32, height: u32) -> Result<List<
 /// The steps of a bound from the least width up to `page` columns. `None` exactly where there are none.
 fn bound_steps(
     alloc: Global,
-    bound: Bound,
-    told: &[Told],
+    bound: HeightBound,
+    told: &[Finding],
     least: u32,
     page: u32,
 ) -> Result<Option<Steps>, AllocError>
@@ -198,10 +198,10 @@ fn steps_of(
 {
     let told = told_by(alloc, sections, style, nested.number)?;
     let least = least_width(alloc, nested, style)?;
-    let Some(low) = bound_steps(alloc, Bound::Low, &told, least, page)? else {
+    let Some(low) = bound_steps(alloc, HeightBound::Low, &told, least, page)? else {
         return Ok(None);
     };
-    let Some(high) = bound_steps(alloc, Bound::High, &told, least, page)? else {
+    let Some(high) = bound_steps(alloc, HeightBound::High, &told, least, page)? else {
         return Ok(None);
     };
     Ok(Some(InnerSteps {

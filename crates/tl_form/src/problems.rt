@@ -9,10 +9,10 @@ ghost use Rattle.tl_form.specs.Problems.{HasSoundProblem, IsCellBy, IsProblemOf,
 ghost use Rattle.tl_table.specs.Sound.{IsSound as IsSoundTable};
 ghost use Rattle.tl_table.specs.Tables.{inner_tables, tables_in};
 ghost use Rattle.tl_form.specs.inner.CellSteps.{AreLowCells, HaveSteps, IsLowByBoth, NeedsBy};
-ghost use Rattle.tl_form.specs.declared.heights.Bound.TheVariants.{Low, High};
+ghost use Rattle.tl_form.specs.declared.heights.HeightBound.TheVariants.{Low, High};
 
 use crate::cell_steps::{cell_steps, high_steps};
-use crate::heights::{Bound, InnerSteps, have_steps};
+use crate::heights::{HeightBound, InnerSteps, have_steps};
 use std::alloc::{AllocError, Global};
 use tl_base::{List, MAX_HEIGHT, MAX_PAGE_WIDTH, Style};
 use tl_problem::{Cell, Problem};
@@ -33,7 +33,7 @@ fn problem_cell(
     ensures { IfOk result (λ found. MatchOption found (IsLowByBoth inner.now page lines (out-TableCell cell.now) → ⊥)
         (IsCellBy (NeedsBy Low inner.now) (NeedsBy High inner.now) page lines (out-TableCell cell.now))) }
 {
-    let Some(low) = cell_steps(alloc, cell, lines, page, inner, Bound::Low)? else {
+    let Some(low) = cell_steps(alloc, cell, lines, page, inner, HeightBound::Low)? else {
         return Ok(None);
     };
     let Some(high) = high_steps(alloc, cell, lines, page, inner, &low)? else {

@@ -1,17 +1,19 @@
 //! A document: a table on a page, and which of its sections is due when.
 
-ghost use Rattle.std.specs.Prelude.{◌≡◌, ◌+◌, ◌<◌, ◌≤◌, IfOk, length, option_map};
+ghost use Rattle.std.specs.Prelude.{◌≡◌, ◌+◌, ◌<◌, ◌≤◌, ◌^◌, IfOk, length, option_map};
 ghost use Rattle.std.specs.List.{All, AllZip};
-ghost use Rattle.tl_base.specs.declared.limits.TheConstants.{MAX_HEIGHT};
+ghost use Rattle.tl_base.specs.declared.limits.TheConstants.{MAX_COLUMNS, MAX_HEIGHT};
 ghost use Rattle.tl_table.specs.declared.cell.Table.{Table, out-Table};
-ghost use Rattle.tl_form.specs.Expected.{IsDocumentOf, IsTableOf, first_due, next_due, own_number};
+ghost use Rattle.tl_form.specs.Expected.{IsDocumentOf, IsTableOf, first_due, next_due, own_number, placed_width};
 ghost use Rattle.tl_table.specs.Least.{IsLeastWidth};
 ghost use Rattle.tl_table.specs.Numbered.{AreByNumber};
 ghost use Rattle.tl_table.specs.Sound.{IsSound, nested_in_table};
 ghost use Rattle.tl_form.specs.Subjects.{due_of, meant};
 
+use crate::widths::placed_width;
 use std::alloc::{AllocError, Global};
 use tl_base::Style;
+use tl_cert::Section;
 use tl_table::{Table, by_number, least_width, nested};
 
 /// A table on a page in a style, with the least width of it and of each table nested in it.
@@ -115,5 +117,17 @@ impl<'a> Subject<'a> {
             table: number - 1,
             width: self.page,
         })
+    }
+
+    /// What is due after this section. `None` exactly after a section of the document's own table.
+    pub fn due_after(&self, section: &Section) -> Option<Due>
+        requires from { own_number (meant self.now) ≤ section.now.table }
+        requires there { section.now.table < own_number (meant self.now) + length self.now.least.items }
+        requires few { length section.now.widths ≤ MAX_COLUMNS }
+        requires small { placed_width self.now.style section.now < 2 ^ 32 }
+        ensures { option_map due_of result ≡ next_due (meant self.now) section.now.table (placed_width self.now.style section.now) }
+    {
+        let placed = placed_width(self.style, section) as u32;
+        self.next_due(section.table, placed)
     }
 }

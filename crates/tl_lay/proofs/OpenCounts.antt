@@ -30,7 +30,7 @@ use Rattle.tl_form.proofs.Truth.{Fits-wider, IsTrue, all_true, high_is_above, lo
 use Rattle.tl_form.proofs.ValidLaws.{no_section}
 use Rattle.tl_narrow.specs.Slimmest.{IsBelowCounts}
 use Rattle.tl_narrow.specs.Slims.{IsLowCertificate}
-use Rattle.tl_tidy.specs.Agreement.{HasSameSteps}
+use Rattle.tl_problem.specs.Agreement.{AgreesOnPage}
 use Rattle.tl_lay.specs.declared.task.Task.{Task}
 use Rattle.tl_lay.specs.Budgets.{budget_in}
 use Rattle.tl_lay.specs.Tidied.{IsLeftOpen, IsOwnProblem}
@@ -38,7 +38,7 @@ use Rattle.tl_lay.proofs.ChosenLaid as laid
 
 -- in a true problem each cell has the same steps by both bounds
 same_steps : (table : Table) (style : Style) (page : ℕ) (problem : ProblemModel) → IsTrueProblem table style page problem →
-    HasSameSteps problem
+    AgreesOnPage problem
 same_steps table style page problem is cell has w within =
     ap (λ (steps : List Config). height_at steps w) (All-contains (λ each. each.low ≡ each.high) problem.cells cell
     (All-from_recursion (λ each. each.low ≡ each.high) problem.cells (true-low-is-high table style page problem is)) has)
@@ -98,20 +98,20 @@ module _ (table : Table) (style : Style) (height width budget : ℕ) (sound : Is
       (is : IsOwnProblem table style c problem) where
     -- with a budget of the greatest count the choice is made
     never_enough : (most : ℕ) → IsCountAll table style width most → most ≤ budget →
-        (HasSameSteps problem → ⊥) ⊎ (budget < count_of problem) → ⊥
+        (AgreesOnPage problem → ⊥) ⊎ (budget < count_of problem) → ⊥
     never_enough most counted enough left = by_left left where
       real : IsTrueProblem table style width problem
       real = closed_true problem is (closes table style width budget most n document c.sections wide_document counted enough
           (omega (arith, cuts)) (omega (arith, last)) good_before)
 
-      by_left : (HasSameSteps problem → ⊥) ⊎ (budget < count_of problem) → ⊥
+      by_left : (AgreesOnPage problem → ⊥) ⊎ (budget < count_of problem) → ⊥
       by_left (inl differ) = differ (same_steps table style width problem real)
       by_left (inr less) =
           let many = counted.never_more table (inl refl) in
           let few = rise table style width width (count_of problem) many.0 (omega arith) (problem, real, refl) many.1 in
           absurd (omega (arith, less, few, many.2, enough))
 
-    pub open_below : (HasSameSteps problem → ⊥) ⊎ (budget < count_of problem) → (page : ℕ) → width ≤ page →
+    pub open_below : (AgreesOnPage problem → ⊥) ⊎ (budget < count_of problem) → (page : ℕ) → width ≤ page →
         IsBelowCounts table style page budget
     open_below left page from =
         let few = counts table style width lines layout sound fits in
@@ -124,6 +124,6 @@ module _ (table : Table) (style : Style) (height width budget : ℕ) (sound : Is
 
 -- what is left open, without the need
 pub differ_or_less : (task : Task) (table : Table) (height : ℕ) (problem : ProblemModel) → IsLeftOpen task table height problem →
-    (HasSameSteps problem → ⊥) ⊎ (budget_in task table < count_of problem)
+    (AgreesOnPage problem → ⊥) ⊎ (budget_in task table < count_of problem)
 differ_or_less task table height problem (inl differ) = inl differ
 differ_or_less task table height problem (inr both) = inr both.1

@@ -23,7 +23,7 @@ use Rattle.tl_narrow.specs.Slimmest.{ClaimsLow}
 use Rattle.tl_narrow.specs.Slims.{IsKept, IsLowCertificate, IsSlim}
 use Rattle.tl_tidy.specs.declared.choice.Choice.{Choice}
 use Rattle.tl_tidy.specs.declared.choice.Choice.TheVariants.{Found, Open}
-use Rattle.tl_tidy.specs.Agreement.{HasSameSteps}
+use Rattle.tl_problem.specs.Agreement.{AgreesOnPage}
 use Rattle.tl_tidy.specs.Choices.{IfFound, IfOpen}
 use Rattle.tl_tidy.specs.Classes.{IsChosen}
 use Rattle.tl_tidy.specs.Needs.{IsNeedAbove, IsNeedWithin}
@@ -43,7 +43,7 @@ use Rattle.tl_narrow.proofs.Certifying.{claimed_height, valid, writable}
 -- ---- the choice
 
 pub found_here : (task : Task) (table : Table) (height budget : ℕ) (problem : ProblemModel) (choice : Choice) (placed : Placed) →
-    budget ≡ budget_in task table → choice ≡ Found placed → HasSameSteps problem → IfFound (IsChosen problem height) choice →
+    budget ≡ budget_in task table → choice ≡ Found placed → AgreesOnPage problem → IfFound (IsChosen problem height) choice →
     IfFound (λ one. one.height ≤ height) choice → IfFound (λ one. IsNeedWithin problem height budget) choice →
     HasWidths task table height problem placed.widths
 found_here task table height budget problem choice placed cuts is same found low enough = record {

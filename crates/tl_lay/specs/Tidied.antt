@@ -12,7 +12,7 @@ use Rattle.tl_problem.specs.Spans.{count_of}
 use Rattle.tl_form.specs.Nested.{IsProblemFor}
 use Rattle.tl_narrow.specs.declared.slim.Slim.{Slim}
 use Rattle.tl_narrow.specs.Slims.{IsSlim}
-use Rattle.tl_tidy.specs.Agreement.{HasSameSteps}
+use Rattle.tl_problem.specs.Agreement.{AgreesOnPage}
 use Rattle.tl_tidy.specs.Classes.{IsChosen}
 use Rattle.tl_tidy.specs.Needs.{IsNeedAbove, IsNeedWithin}
 use Rattle.tl_lay.specs.declared.answer.Answer.{Answer}
@@ -77,14 +77,14 @@ module _ (task : Task) (table : Table) (height : ℕ) where
   -- each cell has the same steps by `low` and by `high`, the budget is no less than the cuts that show which layout is the chosen
   -- one, and this is its placement
   pub record IsChosenWithin (problem : ProblemModel) (placed : Placed) : Type 0 where
-    pub same : HasSameSteps problem
+    pub same : AgreesOnPage problem
     pub enough : IsNeedWithin problem height (budget_in task table)
     pub chosen : IsChosen problem height placed
 
   -- a nested table is not known well enough, as some cell has other steps by `low` than by `high` at a width up to the page's; or
   -- the budget is less than the cuts that show which layout is the chosen one, and so less than the count of the problem
   abbrev pub IsLeftOpen : ProblemModel → Type 0
-  IsLeftOpen problem = (HasSameSteps problem → ⊥)
+  IsLeftOpen problem = (AgreesOnPage problem → ⊥)
       ⊎ (IsNeedAbove problem height (budget_in task table) × (budget_in task table < count_of problem))
 
   -- the narrowest page that is so low was found: this certificate of it is kept, in which the table has this problem

@@ -14,7 +14,6 @@ use crate::input::{Given, Input, read_input};
 use crate::rejection::{Rejection, step_rejection, text_rejection};
 use crate::task::Task;
 use crate::verdict::Verdict;
-use crate::widths::total_width;
 use std::alloc::{AllocError, Global};
 use std::thread;
 use std::thread::Threads;
@@ -23,6 +22,7 @@ use tl_cert::{CertError, Certificate, Claim, Section, read};
 use tl_fan::Run;
 use tl_form::{
     bounded_is_between, budget_closes, lowest_is_least, narrow_is_too_wide, open_spends,
+    total_width,
 };
 use tl_table::Table;
 use tl_verify::verify;

@@ -19,7 +19,6 @@ mod summary;
 mod task;
 mod tidiest;
 mod verdict;
-mod widths;
 
 pub use answer::{Answer, Evidence};
 pub use format::Format;

@@ -22,7 +22,6 @@ use crate::input::{Given, Input, read_input};
 use crate::laws::laid_is_lowest;
 use crate::makers::searched;
 use crate::task::Task;
-use crate::widths::total_width;
 use std::alloc::{AllocError, Global};
 use std::thread;
 use std::thread::Threads;
@@ -31,6 +30,7 @@ use tl_cert::{Certificate, Claim, write};
 use tl_fan::Run;
 use tl_form::{
     Subject, bounded_is_between, budget_closes, layout_with, lowest_is_least, open_spends,
+    total_width,
 };
 use tl_html::html;
 use tl_narrow::{certificate_of, narrow_certificate};

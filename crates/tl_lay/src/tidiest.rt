@@ -29,7 +29,7 @@ use tl_form::{Subject, lay};
 use tl_narrow::Slim;
 use tl_solve::Watcher;
 use tl_table::least_width;
-use tl_tidy::{Choice, choose, steps_agree};
+use tl_tidy::{Choice, choose};
 
 /// How a search for the narrowest of the lowest pages ends. Heights are in lines, widths in columns.
 #[derive(Clone, Copy)]
@@ -232,7 +232,7 @@ fn chosen_widths(
     let sections = certificate.sections.as_slice();
     let own = sections.len() - 1;
     let laid = lay(alloc, table, task.style, &sections[..own], &sections[own])?.unwrap();
-    if !steps_agree(&laid.problem) {
+    if !laid.problem.agrees_on_page() {
         return Ok(None);
     }
     match choose(alloc, &laid.problem, height, given.budget)? {

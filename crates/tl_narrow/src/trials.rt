@@ -30,7 +30,7 @@ use tl_table::Table;
 
 /// What a trial tells of the width that was tried.
 #[derive(Clone, Copy)]
-pub enum Told {
+pub enum TrialResult {
     /// The page is low enough.
     Low,
     /// No page is low enough that is as narrow.
@@ -40,20 +40,20 @@ pub enum Told {
 }
 
 /// What a claim tells of the height that is asked for.
-pub fn told_by(claim: Claim, height: u32) -> Told
+pub fn told_by(claim: Claim, height: u32) -> TrialResult
     ensures { Tells height claim result }
 {
     let (found, lower) = match claim {
         Claim::Lowest(lowest) => (lowest, lowest),
         Claim::Bounded(found, lower) => (found, lower),
-        Claim::Narrow(_) => return Told::High,
+        Claim::Narrow(_) => return TrialResult::High,
     };
     if found <= height {
-        Told::Low
+        TrialResult::Low
     } else if lower > height {
-        Told::High
+        TrialResult::High
     } else {
-        Told::Neither
+        TrialResult::Neither
     }
 }
 
@@ -205,15 +205,15 @@ impl Slim {
         ensures { IsTaken height width trial self.old self.new }
     {
         match told_by(trial.claim, height) {
-            Told::Low => {
+            TrialResult::Low => {
                 self.width = width;
                 self.kept = Some(trial);
             }
-            Told::High => {
+            TrialResult::High => {
                 self.least = width + 1;
                 self.less = Some(trial);
             }
-            Told::Neither => self.spent = Some(trial),
+            TrialResult::Neither => self.spent = Some(trial),
         }
     }
 }

@@ -5,7 +5,6 @@ ghost use Rattle.std.specs.List.{All, AllZip, flat_map};
 ghost use Rattle.std.specs.List.Sorted.{IsPermutation};
 ghost use Rattle.tl_base.specs.declared.limits.TheConstants.{MAX_BUDGET};
 ghost use Rattle.tl_form.specs.Expected.{due_after, own_number, AreDueInOrder};
-ghost use Rattle.tl_form.specs.Expected.{placed_width};
 ghost use Rattle.tl_form.specs.Subjects.{IsSubject, due_of, meant};
 ghost use Rattle.tl_nested.specs.Searched.{IsWideEnough};
 ghost use Rattle.tl_nested.specs.Solved.{GivesOutcome, SearchesEach, SolvesEach};
@@ -18,7 +17,7 @@ use crate::found::table_sections;
 use std::alloc::{AllocError, Global};
 use std::cmp::Reverse;
 use std::thread::Threads;
-use tl_base::{Gate, List, Style, total_size};
+use tl_base::{Gate, List};
 use tl_cert::Section;
 use tl_fan::{Run, gather};
 use tl_form::{Due, Subject};
@@ -130,14 +129,6 @@ pub fn nested_sections<
     sorted(told)
 }
 
-/// The columns that the placement of a section takes.
-fn placed_width(section: &Section, style: Style) -> u32
-    requires { HasNarrowWidths style section.now }
-    ensures { result ≡ placed_width style section.now }
-{
-    total_size(style.gap(), style.edges(), section.widths.as_slice()) as u32
-}
-
 /// What is due after the sections, where each of them is the one that is due after those before it.
 fn due_after(subject: &Subject, sections: &[Section]) -> Option<Due>
     requires subject { IsSubject subject.now }
@@ -150,7 +141,7 @@ fn due_after(subject: &Subject, sections: &[Section]) -> Option<Due>
         if section.table != due.table || section.width != due.width {
             return None;
         }
-        due = subject.next_due(due.table, placed_width(section, subject.style))?;
+        due = subject.due_after(section)?;
     }
     Some(due)
 }

@@ -1,3 +1,4 @@
+mod AgreementExamples
 mod AreaExamples
 mod BoundExamples
 mod Examples
@@ -16,6 +17,7 @@ pub mod OneClass
 pub mod Rectangles
 pub mod SetLaws
 pub mod ShareLaws
+pub mod SameSteps
 pub mod SharedSums
 pub mod Soundness
 pub mod SpanLaws

@@ -17,10 +17,18 @@ abbrev pub AgreeIn : ProblemModel → List Range → Type 0
 AgreeIn problem zone = (s w : ℕ) (cell : Cell) → s < length zone → IsWidthOf problem zone s w →
     Contains problem.cells cell → IsTrue (has_span (span_at problem s) cell) → height_at cell.low w ≡ height_at cell.high w
 
+-- each cell needs the same by `low` and by `high`, at all widths up to `most`, or has no height by either
+abbrev pub AgreeUpTo : ProblemModel → ℕ → Type 0
+AgreeUpTo problem most = (cell : Cell) → Contains problem.cells cell → (w : ℕ) → w ≤ most →
+    height_at cell.low w ≡ height_at cell.high w
+
 -- each cell needs the same by `low` and by `high`, at all widths that the page has room for
 abbrev pub LowIsHigh : ProblemModel → Type 0
-LowIsHigh problem = (cell : Cell) → Contains problem.cells cell → (w : ℕ) → w ≤ page_room problem →
-    height_at cell.low w ≡ height_at cell.high w
+LowIsHigh problem = AgreeUpTo problem (page_room problem)
+
+-- and at all widths up to the page's: also at the last ones of a page with edges, which no room reaches
+abbrev pub AgreesOnPage : ProblemModel → Type 0
+AgreesOnPage problem = AgreeUpTo problem problem.width
 
 -- some cell needs less by `low` than by `high` at a width that the zone gives its span
 pub record DifferIn (problem : ProblemModel) (zone : List Range) : Type 0 where

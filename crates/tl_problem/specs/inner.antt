@@ -1,4 +1,5 @@
 -- What the private functions promise one another. No public clause cites it.
+pub mod Agreeing
 pub mod Axes
 pub mod Constraints
 pub mod Demands

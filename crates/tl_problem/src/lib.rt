@@ -3,6 +3,7 @@
 //! contract: a zone's bound is the least total height by which no layout in the zone is lower.
 #![tactic(auto)]
 
+mod agreement;
 mod area;
 mod axis;
 mod bound;

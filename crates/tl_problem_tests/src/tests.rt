@@ -69,6 +69,20 @@ const SPACED: &str = "\
 1,0,3,0 1x1 8 | 0-1 0-1 = 2:3 | false
 1,0,0,2003 1x1 8 | 0-1 0-1 = 2:3 | false";
 
+// Whether each cell needs the same by `low` and by `high` in any room, and at all widths up to the page's. The steps
+// differ nowhere; everywhere; at five and six columns, on a page of six and on one of four; on a page of six of which
+// a frame leaves four, at four, at five, at six and at seven; and in the second of two cells at nine.
+const AGREEMENT: &str = "\
+plain 1x1 6 | 0-1 0-1 = 1:2 3:1 | true true
+plain 1x1 6 | 0-1 0-1 = 1:2 3:1 / 1:4 3:2 | false false
+plain 1x1 6 | 0-1 0-1 = 1:2 5:1 / 1:2 7:1 | false false
+plain 1x1 4 | 0-1 0-1 = 1:2 5:1 / 1:2 7:1 | true true
+frame 1x1 6 | 0-1 0-1 = 1:2 4:1 / 1:2 5:1 | false false
+frame 1x1 6 | 0-1 0-1 = 1:2 5:1 / 1:2 6:1 | true false
+frame 1x1 6 | 0-1 0-1 = 1:2 6:1 / 1:2 7:1 | true false
+frame 1x1 6 | 0-1 0-1 = 1:2 7:1 / 1:2 8:1 | true true
+plain 2x1 9 | 0-1 0-1 = 1:2 3:1; 1-2 0-1 = 1:2 9:1 / 1:2 | false false";
+
 // The placement under widths: two cells, a colspan, rowspans over two and three rows, and no cell.
 const PLACED: &str = "\
 plain 2x1 12 | 0-1 0-1 = 3:2 7:1; 1-2 0-1 = 2:3 5:2 8:1 | 3 5 | [3, 5] [2] 10x2
@@ -593,6 +607,19 @@ fn a_sound_problem_has_a_spacing(rt: HostRuntime) -> Result<(), Fail> {
         let (page, rest) = halves(row)?;
         let (cells, wanted) = halves(rest)?;
         check_text(&rt, row, soundness(rt.alloc(), page, cells)?, wanted);
+    }
+    Ok(())
+}
+
+#[test]
+fn low_and_high_agree_in_rooms_or_on_the_whole_page(rt: HostRuntime) -> Result<(), Fail> {
+    let alloc = rt.alloc();
+    for row in AGREEMENT.lines() {
+        let (page, rest) = halves(row)?;
+        let (cells, wanted) = halves(rest)?;
+        let made = problem(alloc, page, cells)?;
+        let found = format!(in alloc; "{} {}", made.low_is_high(), made.agrees_on_page())?;
+        check_text(&rt, row, found.as_str(), wanted);
     }
     Ok(())
 }

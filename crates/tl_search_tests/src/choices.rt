@@ -2,12 +2,12 @@
 
 ghost use Rattle.std.specs.Prelude.{◌<◌};
 
-use crate::problems::{add, cell, config, problem, styled};
+use crate::problems::{add, config, problem};
 use std::alloc::Global;
 use std::test::Fail;
-use tl_base::{List, Style};
+use tl_base::List;
 use tl_problem::Problem;
-use tl_tidy::{Choice, choose, steps_agree};
+use tl_tidy::{Choice, choose};
 
 /// `a a` and `b` over `c` and `d d`.
 fn two_by_two(alloc: Global, width: u32) -> Result<Problem, Fail> {
@@ -42,7 +42,7 @@ fn is_chosen(
     quota: u32,
     widths: &[u32],
 ) -> Result<Option<bool>, Fail> {
-    if problem.cells().is_empty() || !steps_agree(problem) {
+    if problem.cells().is_empty() || !problem.agrees_on_page() {
         return Err("there is no cell, or the steps of one differ".into());
     }
     let Some(layout) = problem.place(widths)? else {
@@ -143,35 +143,5 @@ fn one_layout_needs_no_cut(rt: HostRuntime) -> Result<(), Fail> {
     let alloc = rt.alloc();
     let problem = one_column(alloc)?;
     assert!(rt; needs(alloc, &problem, 2, 0, &[2])?);
-    Ok(())
-}
-
-/// One cell that has two lines by `low` and by `high` up to a width, and one line from there on.
-fn one_cell(alloc: Global, style: Style, width: u32, low: u32, high: u32) -> Result<Problem, Fail> {
-    let mut cells = List::new(alloc);
-    let low = [config(1, 2), config(low, 1)];
-    let high = [config(1, 2), config(high, 1)];
-    cells.push(cell(alloc, (0, 1), 0, &low, &high)?)?;
-    styled(alloc, 1, 1, style, width, cells)
-}
-
-// The steps differ from five columns on, past the page of four.
-#[test]
-fn steps_agree_if_they_differ_past_the_page_alone(rt: HostRuntime) -> Result<(), Fail> {
-    let alloc = rt.alloc();
-    assert!(rt; steps_agree(&one_cell(alloc, Style::Plain, 6, 3, 3)?));
-    assert!(rt; !steps_agree(&one_cell(alloc, Style::Plain, 6, 5, 7)?));
-    assert!(rt; steps_agree(&one_cell(alloc, Style::Plain, 4, 5, 7)?));
-    Ok(())
-}
-
-// A frame leaves four of six columns to the cell. The steps differ at five columns alone, and then
-// at six alone; at seven they would be past the page.
-#[test]
-fn steps_do_not_agree_if_they_differ_where_the_frame_is(rt: HostRuntime) -> Result<(), Fail> {
-    let alloc = rt.alloc();
-    assert!(rt; !steps_agree(&one_cell(alloc, Style::Frame, 6, 5, 6)?));
-    assert!(rt; !steps_agree(&one_cell(alloc, Style::Frame, 6, 6, 7)?));
-    assert!(rt; steps_agree(&one_cell(alloc, Style::Frame, 6, 7, 8)?));
     Ok(())
 }

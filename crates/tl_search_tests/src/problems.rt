@@ -74,35 +74,11 @@ pub(crate) fn problem(
     width: u32,
     cells: List<Cell>,
 ) -> Result<Problem, Fail> {
-    styled(alloc, cols, rows, Style::Plain, width, cells)
-}
-
-/// The problem, where it is sound.
-pub(crate) fn styled(
-    alloc: Global,
-    cols: u32,
-    rows: u32,
-    style: Style,
-    width: u32,
-    cells: List<Cell>,
-) -> Result<Problem, Fail> {
-    if !Problem::is_sound(
-        cols,
-        rows,
-        style.spacing(style.edges()),
-        width,
-        cells.as_slice(),
-    ) {
+    let spacing = Style::Plain.spacing(Style::Plain.edges());
+    if !Problem::is_sound(cols, rows, spacing, width, cells.as_slice()) {
         return Err("the cells are no sound problem".into());
     }
-    Ok(Problem::new(
-        alloc,
-        cols,
-        rows,
-        style.spacing(style.edges()),
-        width,
-        cells,
-    )?)
+    Ok(Problem::new(alloc, cols, rows, spacing, width, cells)?)
 }
 
 /// Four columns on a page of 25: `a a`, `b b` and a `c` of two lines in the upper row; `p`, `q`,

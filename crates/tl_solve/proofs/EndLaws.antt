@@ -10,10 +10,10 @@ use Rattle.tl_cert.specs.Traces.{Stands, zone_of}
 use Rattle.tl_cert.specs.Worked.{IsBoundOf, IsWorked}
 use Rattle.tl_solve.specs.declared.arena.Arena.{Arena}
 use Rattle.tl_solve.specs.Arenas.{IsBoundFound, AreBoundsOf, IsArenaOf}
-use Rattle.tl_solve.specs.Ends.{HasBoundUpTo, IsLeastStanding, MayEnd}
+use Rattle.tl_solve.specs.Ends.{HasBoundUpTo, IsLeastStanding, IsLeastUpto, MayEnd}
 use Rattle.tl_solve.specs.Logs.{Proves}
 use Rattle.tl_solve.specs.CutsFound.{IsCutFound, AreCutsOf}
-use Rattle.tl_solve.specs.inner.Found.{least_with, IsLeastUpto}
+use Rattle.tl_solve.specs.inner.Found.{least_with}
 
 -- ---- one zone more
 
@@ -72,20 +72,20 @@ module _ (cuts bounds : List (Option ℕ)) (height upto least : ℕ) (is : IsLea
 module _ (problem : ProblemModel) (trace : List CutAt) (cuts bounds : List (Option ℕ)) (are : AreCutsOf trace (length trace) cuts)
     (found : AreBoundsOf problem trace bounds) where
   -- a zone that no cut has stands
-  stands-none : (z : ℕ) → z < length bounds → get_or cuts z None ≡ None → Stands trace z
+  pub stands-none : (z : ℕ) → z < length bounds → get_or cuts z None ≡ None → Stands trace z
   stands-none z within none =
       let not = subst (IsCutFound trace (length trace) z) none
       (are.each z None (omega (arith, within, found.count, are.count))) in
       record { there = omega (arith, within, found.count); not_cut = λ i d inside. not i d inside }
 
-  none-stands : (z : ℕ) → Stands trace z → (o : Option ℕ) → get_or cuts z None ≡ o → get_or cuts z None ≡ None
+  pub none-stands : (z : ℕ) → Stands trace z → (o : Option ℕ) → get_or cuts z None ≡ o → get_or cuts z None ≡ None
   none-stands z stands None is = is
   none-stands z stands (Some i) is =
       let cut = subst (IsCutFound trace (length trace) z) is (are.each z None (omega (arith, stands.there, are.count))) in
       absurd (stands.not_cut i (record { zone = 0; span = 0; class = 0 }) cut.0
       (cut.1 (record { zone = 0; span = 0; class = 0 })))
 
-  bound-some : (z bound : ℕ) → z < length bounds → IsBoundOf problem trace z bound → (o : Option ℕ) → get_or bounds z None ≡ o →
+  pub bound-some : (z bound : ℕ) → z < length bounds → IsBoundOf problem trace z bound → (o : Option ℕ) → get_or bounds z None ≡ o →
       get_or bounds z None ≡ Some bound
   bound-some z bound within is None none =
       let empty = subst (IsBoundFound problem (zone_of problem trace z)) none (found.each z None within) in

@@ -12,7 +12,7 @@ pub mod Opening
 pub mod OrderLaws
 pub mod ArenaLaws
 pub mod Agreeing
-mod EndLaws
+pub mod EndLaws
 mod TraceEndLaws
 pub mod WalkLaws
 pub mod PieceLaws

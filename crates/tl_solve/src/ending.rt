@@ -5,11 +5,11 @@ ghost use Rattle.tl_cert.specs.Lines.{IsGoodLog};
 ghost use Rattle.tl_cert.specs.Text.{IsLogWritable};
 ghost use Rattle.tl_cert.specs.Traces.{Stands, zone_of};
 ghost use Rattle.tl_solve.specs.Arenas.{IsArenaOf};
-ghost use Rattle.tl_solve.specs.Ends.{HasBoundUpTo, IsLeastStanding, MayEnd};
+ghost use Rattle.tl_solve.specs.Ends.{HasBoundUpTo, IsLeastStanding, IsLeastUpto, MayEnd};
 ghost use Rattle.tl_solve.specs.Logs.{Proves};
 ghost use Rattle.tl_solve.specs.Solver.{IsSolverOutcome};
 ghost use Rattle.tl_solve.specs.TraceLogs.{IsTraceLog};
-ghost use Rattle.tl_solve.specs.inner.Found.{IsLeastUpto, least_with};
+ghost use Rattle.tl_solve.specs.inner.Found.{least_with};
 
 use crate::lines::cuts_of_zones;
 use crate::log::log_of_bounds;
@@ -116,23 +116,24 @@ impl Arena {
     }
 }
 
-/// The least of a height and of the bounds of the zones that no cut has.
-pub(crate) fn least_standing(cuts: &[Option<u32>], bounds: &[Option<u32>], height: u32) -> u32
-    requires { length cuts.now ≡ length bounds.now }
-    ensures { IsLeastUpto cuts.now bounds.now height (length bounds.now) result }
+/// The least of a height and of the bounds of the zones that nothing closes: a cut closes a zone, and a search
+/// may know of more. All are in lines.
+pub fn least_standing(closers: &[Option<u32>], bounds: &[Option<u32>], height: u32) -> u32
+    requires { length closers.now ≡ length bounds.now }
+    ensures { IsLeastUpto closers.now bounds.now height (length bounds.now) result }
 {
     let mut least = height;
     for zone in 0..bounds.len() {
-        least = least_of(least, cuts[zone], bounds[zone]);
+        least = least_of(least, closers[zone], bounds[zone]);
     }
     least
 }
 
-/// The number, or the bound of a zone that no cut has, where that is less.
-fn least_of(least: u32, cut: Option<u32>, bound: Option<u32>) -> u32
-    ensures { result ≡ least_with least cut bound }
+/// The number, or the bound of a zone that nothing closes, where that is less.
+fn least_of(least: u32, closer: Option<u32>, bound: Option<u32>) -> u32
+    ensures { result ≡ least_with least closer bound }
 {
-    match cut {
+    match closer {
         Some(_) => least,
         None => match bound {
             None => least,

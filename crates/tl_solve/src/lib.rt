@@ -19,6 +19,7 @@ mod watcher;
 mod zones;
 
 pub use arena::{Arena, first_open};
+pub use ending::least_standing;
 pub use laws::pieces_leave_nothing_lower;
 pub use lines::cuts_of_zones;
 pub use log::trace_log;

@@ -8,28 +8,24 @@
 --
 -- The whole zone is cut at the first column. Its lower part, with the chosen page, is cut at the second; there the lower
 -- part has the first page alone, which is too high, and the upper part the chosen one. So two cuts are needed.
---
--- And a cell in a frame, whose steps differ where the frame is alone.
 use Rattle.tl_base.proofs.SizeLaws.{spacing-sound}
 use Rattle.tl_base.specs.Style.{spacing_of}
-use Rattle.std.proofs.Common.{◌≡◌, ℕ, ◌+◌, ◌<◌, ◌≤◌, zero, suc, List, [], ◌∷◌, ◌⊎◌, inl, inr, length, get_or, refl, subst, arith}
+use Rattle.std.proofs.Common.{◌≡◌, ℕ, ◌+◌, ◌<◌, ◌≤◌, zero, suc, List, [], ◌∷◌, ◌⊎◌, inl, inr, length, get_or, refl, arith}
 use Rattle.std.specs.List.{AllPairs, Any}
 use Rattle.std.proofs.lemmas.List.Elements.{All-from_recursion}
-use Rattle.tl_base.specs.declared.style.Style.TheVariants.{Frame, Plain}
+use Rattle.tl_base.specs.declared.style.Style.TheVariants.{Plain}
 use Rattle.tl_base.specs.declared.steps.Config.{Config}
-use Rattle.tl_base.specs.Steps.{AreSteps, first_width, height_at, IsLowAt}
-use Rattle.tl_base.proofs.Members.{AllPairs-none, AllPairs-cons, Contains-first, Contains-one}
+use Rattle.tl_base.specs.Steps.{AreSteps, first_width, IsLowAt}
+use Rattle.tl_base.proofs.Members.{AllPairs-none, AllPairs-cons}
 use Rattle.tl_base.specs.Sizes.{room, total}
 use Rattle.tl_problem.specs.declared.cell.Cell.{Cell}
 use Rattle.tl_problem.specs.declared.zone.Range.{Range}
-use Rattle.tl_problem.specs.Agreement.{LowIsHigh}
 use Rattle.tl_problem.specs.Problem.{ProblemModel, cell_width, cell_height}
 use Rattle.tl_problem.specs.Layouts.{WithinPage}
 use Rattle.tl_problem.specs.Sound.{IsSound, IsSoundCell, ShareSlot}
 use Rattle.tl_problem.specs.Spans.{spans_of, classes_of}
 use Rattle.tl_problem.specs.Zones.{classes_at, range, range_at, whole_zone, span_width, IsWidthOf}
 use Rattle.tl_problem.proofs.Heights.{test_le, test_le_false}
-use Rattle.tl_tidy.specs.Agreement.{HasSameSteps}
 use Rattle.tl_tidy.specs.Classes.{IsBefore, IsLowVector, IsChosenVector}
 use Rattle.tl_tidy.specs.Needs.{HasLowBound, ZoneHoldsLow, IsNeed, one_class, lower, both}
 use Rattle.tl_tidy.specs.inner.Walk.{HoldsNone}
@@ -261,36 +257,3 @@ two_cuts =
       before : (t : ℕ) → t < 1 → (range_at (range 0 0 ∷ range 0 1 ∷ []) t).first ≡ (range_at (range 0 0 ∷ range 0 1 ∷ []) t).last
       before zero less = refl
       before (suc t) less = absurd (omega (arith, less))
-
--- ---- steps that differ where the frame is
-
--- on a framed page of six columns the cell's room has at most four. By `low` the cell has one line from five columns on, by `high`
--- from six
-abbrev framed_cell : Cell
-framed_cell = record {
-  left = 0;
-  right = 1;
-  top = 0;
-  bottom = 1;
-  low = step 1 2 ∷ step 5 1 ∷ [];
-  high = step 1 2 ∷ step 6 1 ∷ [];
-}
-
-abbrev framed : ProblemModel
-framed = record { cols = 1; rows = 1; spacing = spacing_of Frame 2; width = 6; cells = framed_cell ∷ [] }
-
--- so it needs the same by both in any room
-same_in_rooms : LowIsHigh framed
-same_in_rooms cell has w within =
-    subst (λ (one : Cell). height_at one.low w ≡ height_at one.high w) (Contains-one framed_cell cell has) (by_width w within) where
-      by_width : (v : ℕ) → v ≤ 4 → height_at framed_cell.low v ≡ height_at framed_cell.high v
-      by_width zero in_room = refl
-      by_width (suc zero) in_room = refl
-      by_width (suc (suc zero)) in_room = refl
-      by_width (suc (suc (suc zero))) in_room = refl
-      by_width (suc (suc (suc (suc zero)))) in_room = refl
-      by_width (suc (suc (suc (suc (suc v))))) in_room = absurd (omega (arith, in_room))
-
--- but its steps are not the same
-other_steps : HasSameSteps framed → ⊥
-other_steps same = let at_five = same framed_cell (Contains-first framed_cell []) 5 (omega arith) in absurd cc

@@ -5,4 +5,3 @@ pub mod Vectors
 pub mod Parts
 pub mod NeedLaws
 pub mod WalkLaws
-pub mod SameSteps

@@ -1,4 +1,3 @@
-pub mod Agreement
 pub mod Classes
 pub mod Needs
 pub mod Choices

@@ -18,13 +18,11 @@
 //! ```
 #![tactic(auto)]
 
-mod agree;
 mod choice;
 mod laws;
 mod look;
 mod walk;
 
-pub use agree::steps_agree;
 pub use choice::Choice;
 pub use laws::{chosen_is_unique, each_zone_has_need, need_is_below_count, need_is_unique};
 pub use walk::choose;

@@ -2,13 +2,11 @@
 //! many at once.
 
 ghost use Rattle.std.specs.Prelude.{◌≡◌, ℕ, ◌+◌, ◌<◌, ◌≤◌, ◌↔◌, length, take, get_or, IfOk, IfErr, IsTrue, alloc_error, option_map, vec_len};
-ghost use Rattle.std.specs.List.{AllByRecursion};
-ghost use Rattle.tl_base.specs.declared.limits.TheConstants.{MAX_COLUMNS, MAX_PAGE_WIDTH};
 ghost use Rattle.tl_base.specs.Returned.{IsMemoryOr};
 ghost use Rattle.tl_cert.specs.declared.certificate.Certificate.{Certificate};
 ghost use Rattle.tl_cert.specs.declared.section.Section.{Section};
 ghost use Rattle.tl_cert.specs.Text.{IsWritable};
-ghost use Rattle.tl_form.specs.Expected.{placed_width, AreDueInOrder};
+ghost use Rattle.tl_form.specs.Expected.{AreDueInOrder};
 ghost use Rattle.tl_form.specs.Failures.{IsGoodUpTo};
 ghost use Rattle.tl_form.specs.Valid.{AreWhole, HasLog, HasTrace};
 ghost use Rattle.tl_verify.specs.declared.reject.Reject.TheVariants.{Memory};
@@ -20,7 +18,7 @@ ghost use Rattle.tl_form.specs.Subjects.{IsSubject, due_of, meant};
 use crate::reject::Reject;
 use std::alloc::Global;
 use std::thread::Threads;
-use tl_base::{Gate, Style, total_size};
+use tl_base::Gate;
 use tl_cert::{Certificate, Section};
 use tl_check::Checker;
 use tl_fan::{Run, fan_out, places};
@@ -33,15 +31,6 @@ use tl_problem::Problem;
 struct Order {
     count: u32,
     due: Option<Due>,
-}
-
-/// The columns that the placement of a section takes.
-fn placed_width(section: &Section, style: Style) -> u32
-    requires few { length section.now.widths ≤ MAX_COLUMNS }
-    requires narrow { AllByRecursion (λ width. width ≤ MAX_PAGE_WIDTH) section.now.widths }
-    ensures { result ≡ placed_width style section.now }
-{
-    total_size(style.gap(), style.edges(), section.widths.as_slice()) as u32
 }
 
 /// How far the sections of a certificate are in order.
@@ -62,7 +51,7 @@ fn in_order(subject: &Subject, certificate: &Certificate) -> Order
         if section.table != now.table || section.width != now.width {
             return Order { count: number, due };
         }
-        due = subject.next_due(now.table, placed_width(section, subject.style));
+        due = subject.due_after(section);
     }
     Order { count, due }
 }

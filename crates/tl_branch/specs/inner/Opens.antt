@@ -1,5 +1,6 @@
 -- No public clause cites this file. What the zones prove that a search leaves without a line.
-use Rattle.std.specs.Prelude.{◌≡◌, ◌⊎◌, ℕ, ◌+◌, ◌*◌, ◌<◌, ◌≤◌, min, false, IsTrue, List, get_or, length, Option, Some, None}
+use Rattle.std.specs.Prelude.{◌≡◌, ◌⊎◌, ℕ, ◌+◌, ◌*◌, ◌<◌, ◌≤◌, false, IsTrue, List, get_or, length, Option, None}
+use Rattle.std.specs.Option.{option_or}
 use Rattle.tl_problem.specs.Problem.{ProblemModel}
 use Rattle.tl_cert.specs.declared.trace.CutAt.{CutAt}
 use Rattle.tl_cert.specs.Traces.{Stands, zone_of}
@@ -20,21 +21,10 @@ pub record IsLeastOpen (problem : ProblemModel) (trace : List CutAt) (lines : Li
   pub attained : (lower ≡ height) ⊎ ((z bound : ℕ) × Stands trace z × (get_or lines z None ≡ None) ×
       IsBoundOf problem trace z bound × (bound ≤ lower))
 
--- a number, or the bound of a zone that has neither a cut nor a line, where that is less
-abbrev pub least_with : ℕ → Option ℕ → Option ℕ → Option ℕ → ℕ
-least_with least None None (Some bound) = min least bound
-least_with least None None None = least
-least_with least None (Some line) bound = least
-least_with least (Some cut) line bound = least
-
--- the least of the height and of the bounds, among the first ones, of zones that have neither a cut nor a line
-pub record IsLeastUpto (cuts lines bounds : List (Option ℕ)) (height upto least : ℕ) : Type 0 where
-  pub at_most : least ≤ height
-  pub never_more : (z bound : ℕ) → z < upto → get_or cuts z None ≡ None → get_or lines z None ≡ None →
-      get_or bounds z None ≡ Some bound → least ≤ bound
-  pub attained : (least ≡ height)
-      ⊎ ((z bound : ℕ) × (z < upto) × (get_or cuts z None ≡ None) × (get_or lines z None ≡ None)
-      × (get_or bounds z None ≡ Some bound) × (bound ≡ least))
+-- what closes each of the first zones: its cut, or where it has none its line
+pub record AreClosers (cuts lines : List (Option ℕ)) (upto : ℕ) (closers : List (Option ℕ)) : Type 0 where
+  pub count : length closers ≡ upto
+  pub each : (z : ℕ) → z < upto → get_or closers z None ≡ option_or (get_or cuts z None) (get_or lines z None)
 
 -- each zone from this one on has a line
 abbrev pub HaveLinesFrom : List CutAt → List (Option ℕ) → ℕ → Type 0

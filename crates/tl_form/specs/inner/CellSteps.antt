@@ -7,19 +7,19 @@ use Rattle.tl_base.specs.Steps.{AreSteps, height_at}
 use Rattle.tl_table.specs.declared.cell.Content.{Content, out-Content}
 use Rattle.tl_table.specs.declared.cell.Table.{Table, out-Table}
 use Rattle.tl_table.specs.declared.cell.TableCell.{TableCell, out-TableCell}
-use Rattle.tl_form.specs.declared.heights.Bound.{Bound}
-use Rattle.tl_form.specs.declared.heights.Bound.TheVariants.{Low, High}
+use Rattle.tl_form.specs.declared.heights.HeightBound.{HeightBound}
+use Rattle.tl_form.specs.declared.heights.HeightBound.TheVariants.{Low, High}
 use Rattle.tl_form.specs.declared.heights.InnerSteps.{InnerSteps}
 use Rattle.tl_table.specs.Tables.{OpenCell, tables_of}
 use Rattle.tl_form.specs.Problems.{BlockNeeds, CellNeeds, InnerNeeds, steps_for}
 
 -- the steps of a nested table that are this bound
-abbrev pub bound_of : Bound → InnerSteps → List Config
+abbrev pub bound_of : HeightBound → InnerSteps → List Config
 bound_of Low one = one.low
 bound_of High one = one.high
 
 -- what nested tables need by this bound of them
-abbrev pub NeedsBy : Bound → List InnerSteps → Table → ℕ → ℕ → Type 0
+abbrev pub NeedsBy : HeightBound → List InnerSteps → Table → ℕ → ℕ → Type 0
 NeedsBy bound inner = InnerNeeds (bound_of bound) inner
 
 -- each of the tables has its steps among these

@@ -8,10 +8,10 @@ use Rattle.tl_base.specs.declared.style.Style.{Style}
 use Rattle.tl_base.specs.Steps.{first_width, height_at}
 use Rattle.tl_cert.specs.declared.section.Section.{Section}
 use Rattle.tl_table.specs.declared.cell.Table.{Table}
-use Rattle.tl_form.specs.declared.heights.Bound.{Bound}
-use Rattle.tl_form.specs.declared.heights.Bound.TheVariants.{Low, High}
+use Rattle.tl_form.specs.declared.heights.HeightBound.{HeightBound}
+use Rattle.tl_form.specs.declared.heights.HeightBound.TheVariants.{Low, High}
 use Rattle.tl_form.specs.declared.heights.InnerSteps.{InnerSteps}
-use Rattle.tl_form.specs.declared.nested_steps.Told.{Told}
+use Rattle.tl_form.specs.declared.nested_steps.Finding.{Finding}
 use Rattle.tl_form.specs.Expected.{placed_width}
 use Rattle.tl_form.specs.Nested.{AreStepsBy}
 use Rattle.tl_form.specs.Problems.{AreStepsOf}
@@ -45,7 +45,7 @@ abbrev pub capped : ℕ → ℕ
 capped width = min width (2 ^ 64 - 1)
 
 -- what a section tells of its table
-abbrev pub told_of : Style → Section → Told
+abbrev pub told_of : Style → Section → Finding
 told_of style section = record {
   width = section.width;
   placed = capped (placed_width style section);
@@ -54,19 +54,19 @@ told_of style section = record {
 }
 
 -- what the sections of a table tell, in their order
-abbrev pub told_by : Style → ℕ → List Section → List Told
+abbrev pub told_by : Style → ℕ → List Section → List Finding
 told_by style number sections = map (told_of style) (filter (λ section. section.table == number) sections)
 
 -- what is told is of a page of at least `w` columns
-abbrev pub IsAsWideAs : ℕ → Told → Type 0
+abbrev pub IsAsWideAs : ℕ → Finding → Type 0
 IsAsWideAs w one = w ≤ one.width
 
 -- what is told is of a placement of at most `w` columns
-abbrev pub IsPlacedIn : ℕ → Told → Type 0
+abbrev pub IsPlacedIn : ℕ → Finding → Type 0
 IsPlacedIn w one = one.placed ≤ w
 
 -- the height at a width, as a bound of either kind
-abbrev pub TellsHeight : Bound → List Told → ℕ → ℕ → Type 0
+abbrev pub TellsHeight : HeightBound → List Finding → ℕ → ℕ → Type 0
 TellsHeight Low told w h = IsMost (IsAsWideAs w) (λ one. one.lower) told h
 TellsHeight High told w h = IsFewest (IsPlacedIn w) (λ one. one.height) told h
 
@@ -94,7 +94,7 @@ pub record AreStepsBelow (needs : ℕ → ℕ → Type 0) (least w : ℕ) (steps
   pub each : (v : ℕ) → v < w → least ≤ v → (h : ℕ) × (height_at steps v ≡ Some h) × needs v h
 
 -- the steps of a bound, from the least width up to `page`
-pub record AreToldSteps (bound : Bound) (told : List Told) (least page : ℕ) (steps : List Config) : Type 0 where
+pub record AreToldSteps (bound : HeightBound) (told : List Finding) (least page : ℕ) (steps : List Config) : Type 0 where
   pub begins : first_width steps ≡ least
   pub are : AreStepsOf (λ w h. (least ≤ w) × TellsHeight bound told w h) page steps
 

@@ -11,8 +11,8 @@ use Rattle.tl_table.specs.Least.{IsLeastWidth}
 use Rattle.tl_form.specs.OpenLaws.{IsSpent}
 use Rattle.tl_form.specs.Valid.{IsValid}
 use Rattle.tl_narrow.specs.declared.slim.Slim.{Slim}
-use Rattle.tl_narrow.specs.declared.trials.Told.{Told}
-use Rattle.tl_narrow.specs.declared.trials.Told.TheVariants.{Low, High, Neither}
+use Rattle.tl_narrow.specs.declared.trials.TrialResult.{TrialResult}
+use Rattle.tl_narrow.specs.declared.trials.TrialResult.TheVariants.{Low, High, Neither}
 use Rattle.tl_narrow.specs.Trials.{IsBisection}
 use Rattle.tl_narrow.specs.Slimmest.{ClaimsHigh, ClaimsLow, ClaimsNeither, IsBelowCounts}
 use Rattle.tl_narrow.specs.Slims.{AreSearched, IsBetweenWidths, IsSpentBetween, trial_between}
@@ -20,7 +20,7 @@ use Rattle.tl_narrow.specs.Slims.{AreSearched, IsBetweenWidths, IsSpentBetween, 
 -- ---- one trial
 
 -- what a claim tells of a height
-abbrev pub Tells : ℕ → Claim → Told → Type 0
+abbrev pub Tells : ℕ → Claim → TrialResult → Type 0
 Tells height claim Low = ClaimsLow height claim
 Tells height claim High = ClaimsHigh height claim
 Tells height claim Neither = ClaimsNeither height claim

@@ -1,9 +1,7 @@
 -- What a look at a zone finds; no public clause cites this file.
-use Rattle.std.specs.Prelude.{◌≡◌, ℕ, ◌≤◌, List}
+use Rattle.std.specs.Prelude.{ℕ, List}
 use Rattle.tl_problem.specs.declared.placed.Placed.{Placed}
 use Rattle.tl_problem.specs.declared.zone.Range.{Range}
-use Rattle.tl_base.specs.declared.steps.Config.{Config}
-use Rattle.tl_base.specs.Steps.{height_at}
 use Rattle.tl_problem.specs.Problem.{ProblemModel}
 use Rattle.tl_problem.specs.Zones.{InZone, IsFirstOpen}
 use Rattle.tl_problem.specs.Agreement.{HasOneClass}
@@ -24,11 +22,3 @@ pub record IsTightIn (problem : ProblemModel) (zone : List Range) (placed : Plac
   pub widths : List ℕ
   pub least : AreLeast problem.spacing.gap (InZone problem zone) widths
   pub tight : IsTightFrom problem widths placed
-
--- both have the same height at the width at which a step begins, if that is at most `most`
-abbrev pub AreSameAt : List Config → List Config → ℕ → Config → Type 0
-AreSameAt low high most step = step.width ≤ most → height_at low step.width ≡ height_at high step.width
-
--- both have the same height at each width up to `most`
-abbrev pub AreSameUpTo : List Config → List Config → ℕ → Type 0
-AreSameUpTo low high most = (w : ℕ) → w ≤ most → height_at low w ≡ height_at high w

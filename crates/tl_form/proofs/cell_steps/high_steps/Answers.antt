@@ -2,7 +2,7 @@ use Rattle.std.proofs.Common.{◌∙◌, sym, subst}
 use Rattle.std.proofs.lemmas.List.Elements.{recursion_from_All}
 use Rattle.tl_table.specs.declared.cell.TableCell.{out-TableCell}
 use Rattle.tl_form.specs.Problems.{AreStepsOf, CellNeeds}
-use Rattle.tl_form.specs.declared.heights.Bound.TheVariants.{Low, High}
+use Rattle.tl_form.specs.declared.heights.HeightBound.TheVariants.{Low, High}
 use Rattle.tl_form.specs.inner.CellSteps.{IsPlainBlock, NeedsBy}
 use Rattle.tl_form.proofs.CellNeedLemmas.{plain-steps}
 use Rattle.tl_form.proofs.cell_steps.high_steps.Goals as goal

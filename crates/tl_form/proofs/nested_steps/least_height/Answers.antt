@@ -1,6 +1,6 @@
 use Rattle.std.proofs.Common.{◌∙◌, ◌+◌, Some, get_or, take, sym, ap, subst, arith}
 use Rattle.std.proofs.lemmas.List.{get_or_default}
-use Rattle.tl_form.specs.declared.nested_steps.Told.{Told}
+use Rattle.tl_form.specs.declared.nested_steps.Finding.{Finding}
 use Rattle.tl_form.specs.inner.Collecting.{IsPlacedIn}
 use Rattle.tl_form.proofs.BestOf.{BestFewest, fewest_counted, fewest_skipped}
 use Rattle.tl_form.proofs.nested_steps.least_height.Goals.{then-one-w, else-one-w}
@@ -8,7 +8,7 @@ use Rattle.tl_form.proofs.nested_steps.least_height.Goals as goal
 
 pub loop-one-preserved : goal.loop-one-preserved
 loop-one-preserved c =
-    let none : Told = record { width = 0; placed = 0; height = 0; lower = 0 } in
+    let none : Finding = record { width = 0; placed = 0; height = 0; lower = 0 } in
     let told = c.args.told.now in
     let i = c.loop-one.one-index in
     let one = get_or told i none in

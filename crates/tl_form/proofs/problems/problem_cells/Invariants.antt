@@ -1,7 +1,7 @@
 use Rattle.std.proofs.Common.{take}
 use Rattle.std.specs.List.{AllZip}
 use Rattle.tl_table.specs.declared.cell.TableCell.{out-TableCell}
-use Rattle.tl_form.specs.declared.heights.Bound.TheVariants.{Low, High}
+use Rattle.tl_form.specs.declared.heights.HeightBound.TheVariants.{Low, High}
 use Rattle.tl_form.specs.Problems.{IsCellBy, inside_of}
 use Rattle.tl_table.specs.declared.cell.Table.{out-Table}
 use Rattle.tl_form.specs.inner.CellSteps.{NeedsBy}

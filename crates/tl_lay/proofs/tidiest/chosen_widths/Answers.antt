@@ -28,8 +28,8 @@ unwrap-laid-requires c =
     (IsNeverLaid table style section (take (length all - 1) all)) (IsLaidOn table style section (take (length all - 1) all)))
     c.as_slice-sections.ensures c.in_ok-lay.ensures)
 
-pub returns-then-not-steps_agree : goal.returns-then-not-steps_agree
-returns-then-not-steps_agree c =
+pub returns-then-not-agrees_on_page : goal.returns-then-not-agrees_on_page
+returns-then-not-agrees_on_page c =
     let table = c.args.given.now.table in
     let style = c.args.task.now.style in
     let section = c.index-sections-own.result in
@@ -45,7 +45,7 @@ returns-then-not-steps_agree c =
           section
           (subst (λ (all : List Section). section ≡ get_or all (length all - 1) section) c.as_slice-sections.ensures
           c.index-sections-own.is) c.unwrap-laid.result both,
-      inl (λ same. let yes = c.steps_agree.ensures.same.1 same in absurd cc),
+      inl (λ same. let yes = c.agrees_on_page.ensures.page.1 same in absurd cc),
     )
 
 pub choose-requires-clause-some : goal.choose-requires-clause-some
@@ -83,7 +83,7 @@ returns-in-Found c =
           (subst (λ (all : List Section). section ≡ get_or all (length all - 1) section) c.as_slice-sections.ensures
           c.index-sections-own.is) c.unwrap-laid.result both,
       found_here c.args.task.now table c.args.height c.args.given.now.budget c.unwrap-laid.result.problem c.in_ok-placed.field-0
-          c.in-Found.placed c.requires.usable.of_task c.in-Found.is (c.steps_agree.ensures.same.0 c.if-not-steps_agree.false)
+          c.in-Found.placed c.requires.usable.of_task c.in-Found.is (c.agrees_on_page.ensures.page.0 c.if-not-agrees_on_page.false)
           c.in_ok-placed.ensures.found c.in_ok-placed.ensures.low c.in_ok-placed.ensures.enough,
     )
 

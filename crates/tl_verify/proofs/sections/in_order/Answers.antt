@@ -1,12 +1,13 @@
-use Rattle.std.proofs.Common.{◌≡◌, ◌∙◌, ◌≤◌, ◌<◌, Some, length, get_or, take, option_map, sym, ap, subst, arith}
-use Rattle.std.specs.List.{AllByRecursion}
-use Rattle.tl_base.specs.declared.limits.TheConstants.{MAX_COLUMNS, MAX_PAGE_WIDTH}
+use Rattle.std.proofs.Common.{◌≡◌, ◌∙◌, ◌^◌, ◌≤◌, ◌<◌, Some, length, get_or, take, option_map, refl, sym, ap, subst, arith}
+use Rattle.tl_base.specs.declared.limits.TheConstants.{MAX_COLUMNS}
+use Rattle.tl_base.specs.Style.{edges_of, gap_of}
+use Rattle.tl_base.proofs.SizeLaws.{spacing-sound}
 use Rattle.tl_cert.specs.declared.section.Section.{Section}
-use Rattle.tl_form.specs.Expected.{due_after}
+use Rattle.tl_form.specs.Expected.{next_due, placed_width}
 use Rattle.tl_form.specs.Subjects.{due_of, meant}
 use Rattle.tl_form.proofs.DueLaws.{may_be_due}
 use Rattle.tl_form.proofs.SmallSections.{few_sections, small_sections}
-use Rattle.tl_verify.proofs.Ordering.{narrow_widths, order_more}
+use Rattle.tl_verify.proofs.Ordering.{narrow_widths, order_more, total_fits}
 use Rattle.tl_verify.proofs.sections.in_order.Goals as goal
 
 pub overflow_cast-count : goal.overflow_cast-count
@@ -17,8 +18,8 @@ overflow_cast-count c =
       ap length c.as_slice-sections.ensures,
     )
 
-pub placed_width-requires-clause-few : goal.placed_width-requires-clause-few
-placed_width-requires-clause-few c =
+pub due_after-due-requires-clause-few : goal.due_after-due-requires-clause-few
+due_after-due-requires-clause-few c =
     let section = c.index-sections-number.result in
     let is : section ≡ get_or c.args.certificate.now.sections c.loop-number.number section =
     c.index-sections-number.is ∙ ap (λ xs. get_or xs c.loop-number.number section) c.as_slice-sections.ensures in
@@ -26,23 +27,33 @@ placed_width-requires-clause-few c =
     (small_sections c.args.certificate.now c.requires.written c.loop-number.number section
     (omega (arith, c.loop-number-test.true, ap length c.as_slice-sections.ensures))).few
 
-pub placed_width-requires-clause-narrow : goal.placed_width-requires-clause-narrow
-placed_width-requires-clause-narrow c =
+pub due_after-due-requires-clause-small : goal.due_after-due-requires-clause-small
+due_after-due-requires-clause-small c =
+    let sections = c.args.certificate.now.sections in
+    let style = c.args.subject.now.style in
     let section = c.index-sections-number.result in
-    let is : section ≡ get_or c.args.certificate.now.sections c.loop-number.number section =
+    let is : section ≡ get_or sections c.loop-number.number section =
     c.index-sections-number.is ∙ ap (λ xs. get_or xs c.loop-number.number section) c.as_slice-sections.ensures in
-    subst (λ (s : Section). AllByRecursion (λ width. width ≤ MAX_PAGE_WIDTH) s.widths) (sym is)
-    (narrow_widths c.args.certificate.now c.requires.written c.loop-number.number section
-    (omega (arith, c.loop-number-test.true, ap length c.as_slice-sections.ensures)))
+    let inside : c.loop-number.number < length sections = omega
+    (arith, c.loop-number-test.true, ap length c.as_slice-sections.ensures) in
+    let spacing = spacing-sound style 0 (omega arith) in
+    subst (λ (s : Section). placed_width style s < 2 ^ 32) (sym is)
+    (total_fits (gap_of style) (edges_of style) (get_or sections c.loop-number.number section).widths spacing.near spacing.narrow
+    (small_sections c.args.certificate.now c.requires.written c.loop-number.number section inside).few
+    (narrow_widths c.args.certificate.now c.requires.written c.loop-number.number section inside))
 
-pub next_due-due-requires-clause-from : goal.next_due-due-requires-clause-from
-next_due-due-requires-clause-from c =
-    (may_be_due (meant c.args.subject.now) (take c.loop-number.number c.args.certificate.now.sections) (due_of c.in-Some.now)
-    (omega (arith, c.requires.subject.document.numbers))
-    (c.loop-number.invariant.next ∙ ap (option_map due_of) c.in-Some.is)).from
+pub due_after-due-requires-clause-from : goal.due_after-due-requires-clause-from
+due_after-due-requires-clause-from c =
+    omega (
+      arith,
+      (may_be_due (meant c.args.subject.now) (take c.loop-number.number c.args.certificate.now.sections) (due_of c.in-Some.now)
+          (omega (arith, c.requires.subject.document.numbers))
+          (c.loop-number.invariant.next ∙ ap (option_map due_of) c.in-Some.is)).from,
+      c.if-section-now.false,
+    )
 
-pub next_due-due-requires-clause-there : goal.next_due-due-requires-clause-there
-next_due-due-requires-clause-there c =
+pub due_after-due-requires-clause-there : goal.due_after-due-requires-clause-there
+due_after-due-requires-clause-there c =
     omega (
       arith,
       (may_be_due (meant c.args.subject.now) (take c.loop-number.number c.args.certificate.now.sections) (due_of c.in-Some.now)
@@ -50,14 +61,18 @@ next_due-due-requires-clause-there c =
           (c.loop-number.invariant.next ∙ ap (option_map due_of) c.in-Some.is)).upto,
       c.requires.subject.document.numbers,
       c.requires.subject.document.each,
+      c.if-section-now.false,
     )
 
 pub loop-number-preserved : goal.loop-number-preserved
 loop-number-preserved c =
+    let document = meant c.args.subject.now in
     let section = c.index-sections-number.result in
     let is : section ≡ get_or c.args.certificate.now.sections c.loop-number.number section =
     c.index-sections-number.is ∙ ap (λ xs. get_or xs c.loop-number.number section) c.as_slice-sections.ensures in
-    order_more (meant c.args.subject.now) c.args.certificate.now.sections c.loop-number.number c.loop-number.due
-    c.next_due-due.result c.in-Some.now c.placed_width.result section
+    order_more document c.args.certificate.now.sections c.loop-number.number c.loop-number.due
+    c.due_after-due.result c.in-Some.now (placed_width document.style section) section
     (omega (arith, c.loop-number-test.true, ap length c.as_slice-sections.ensures)) c.loop-number.invariant c.in-Some.is is
-    c.if-section-now.false c.if-section-now-2.false c.placed_width.ensures c.next_due-due.ensures
+    c.if-section-now.false c.if-section-now-2.false refl
+    (c.due_after-due.ensures
+    ∙ ap (λ number. next_due document number (placed_width document.style section)) c.if-section-now.false)

@@ -1,8 +1,8 @@
 use Rattle.std.proofs.Common.{subst}
 use Rattle.std.specs.List.{All}
-use Rattle.tl_tidy.specs.inner.Looks.{AreSameAt}
-use Rattle.tl_tidy.proofs.SameSteps.{same-upto, same-at}
-use Rattle.tl_tidy.proofs.agree.are_same_up_to.Goals as goal
+use Rattle.tl_problem.specs.inner.Agreeing.{AreSameAt}
+use Rattle.tl_problem.proofs.SameSteps.{same-upto, same-at}
+use Rattle.tl_problem.proofs.agreement.are_same_up_to.Goals as goal
 
 pub returns-then-are_same_at : goal.returns-then-are_same_at
 returns-then-are_same_at c =

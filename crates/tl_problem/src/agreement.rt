@@ -1,23 +1,39 @@
-//! Whether the cells of a problem have the same steps by `low` and by `high`.
+//! Whether the cells of a problem need the same by `low` and by `high`.
 
 ghost use Rattle.std.specs.Prelude.{◌≡◌, ◌≤◌, ◌↔◌, IsTrue};
 ghost use Rattle.std.specs.List.{All};
 ghost use Rattle.tl_base.specs.Steps.{height_at};
-ghost use Rattle.tl_problem.specs.Agreement.{LowIsHigh};
-ghost use Rattle.tl_tidy.specs.Agreement.{HasSameSteps};
-ghost use Rattle.tl_tidy.specs.inner.Looks.{AreSameAt, AreSameUpTo};
+ghost use Rattle.tl_problem.specs.Agreement.{AgreeUpTo, AgreesOnPage, LowIsHigh};
+ghost use Rattle.tl_problem.specs.inner.Agreeing.{AreSameAt, AreSameUpTo};
 
+use crate::Problem;
 use tl_base::{Config, Steps};
-use tl_problem::Problem;
 
-/// Whether each cell has the same steps by `low` and by `high`, at all widths up to the page's: also
-/// at the last ones of a page with edges, which no room reaches. Then each cell needs the same by
-/// both in any room, as `choose` asks. No memory is taken.
-pub fn steps_agree(problem: &Problem) -> bool
-    ensures same { IsTrue result ↔ HasSameSteps problem.now }
-    ensures agree { IsTrue result → LowIsHigh problem.now }
+impl Problem {
+    /// Whether each cell needs the same by `low` and by `high` at all widths that the page has room for. No
+    /// memory is taken.
+    pub fn low_is_high(&self) -> bool
+        ensures { IsTrue result ↔ LowIsHigh self.now }
+    {
+        let spacing = self.spacing();
+        agree_up_to(self, self.width().saturating_sub(spacing.edges))
+    }
+
+    /// Whether each cell needs the same by `low` and by `high`, or has no height by either, at all widths
+    /// up to the page's: also at the last ones of a page with edges, which no room reaches. No memory is
+    /// taken.
+    pub fn agrees_on_page(&self) -> bool
+        ensures page { IsTrue result ↔ AgreesOnPage self.now }
+        ensures rooms { IsTrue result → LowIsHigh self.now }
+    {
+        agree_up_to(self, self.width())
+    }
+}
+
+/// Whether each cell needs the same by `low` and by `high` at all widths up to `most`.
+fn agree_up_to(problem: &Problem, most: u32) -> bool
+    ensures { IsTrue result ↔ AgreeUpTo problem.now most }
 {
-    let most = problem.width();
     let cells = problem.cells();
     for number in 0..cells.len() {
         let cell = &cells[number];

@@ -9,7 +9,7 @@ use Rattle.tl_base.specs.declared.steps.Config.{Config}
 use Rattle.tl_base.specs.Steps.{height_at}
 use Rattle.tl_base.proofs.Members.{Contains-first, Contains-later}
 use Rattle.tl_problem.proofs.Heights.{test_le_false, height-same}
-use Rattle.tl_tidy.specs.inner.Looks.{AreSameAt, AreSameUpTo}
+use Rattle.tl_problem.specs.inner.Agreeing.{AreSameAt, AreSameUpTo}
 
 -- no step begins at the width
 abbrev NoneBegins : ℕ → List Config → Type 0
